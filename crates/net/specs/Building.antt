@@ -1,0 +1,117 @@
+-- What building and margin answer, and what the lent lists hold afterwards, for every input.
+-- The number of segments, m, is given beside the net: an array may hold fewer than are claimed, and 4 looks at the claim.
+use mathlib.Core.Bool.{Bool, true, false}
+use mathlib.Core.List.{List, [], _∷_, _++_}
+use mathlib.Core.Option.{Option, none, some}
+use Prim.Native.Nat.{ℕ}
+use lib.ListN.{length, drop}
+use lib.IntN.{ℤ}
+use Rattle.net.specs.Net.{Net}
+use Rattle.net.specs.Refusals.{Line, Lent, first, netLines, lentLines, joinedLines, postLines}
+use Rattle.net.specs.Trees.{at, joined, leastLengths, lightest, shortest, pathIn, radius, whole, marginBy}
+use Rattle.net.specs.Walk.{Notes, Given, atStart, walk}
+use Rattle.net.specs.declared.Refusal.{Refusal}
+use Rattle.net.specs.declared.Tree.{Tree}
+use Rattle.net.specs.declared.Tree.the-variants.{Lightest, Shortest, Between}
+
+module _ (ok : ℕ → Bool) (n : Net) where
+  -- THE THREE TREES of a net
+  unfoldable pub lightestOf : List ℕ
+  lightestOf = lightest (n .segments) ok (n .head .posts) (n .head .source)
+
+  -- D
+  unfoldable pub leastLengthsOf : List ℕ
+  leastLengthsOf = leastLengths (n .segments) ok (n .head .posts) (n .head .source)
+
+  unfoldable pub shortestOf : List ℕ
+  shortestOf = shortest (n .segments) ok (n .head .posts) (n .head .source)
+
+  -- one ratio for all posts
+  unfoldable pub givenOf : Given
+  givenOf =
+      record {
+        segments = n .segments;
+        posts = n .head .posts;
+        walked = lightestOf;
+        shortest = shortestOf;
+        D = leastLengthsOf;
+        p = λ _. n .head .p;
+        q = λ _. n .head .q;
+      }
+
+  -- "Walk the lightest tree from the source."
+  unfoldable pub walkOf : Notes
+  walkOf = walk givenOf (n .head .posts) (n .head .source) (atStart (n .head .posts) (n .head .source))
+
+  unfoldable pub betweenOf : List ℕ
+  betweenOf = (walkOf) .entries
+
+  unfoldable pub laidOf : List ℕ
+  laidOf = (walkOf) .laid
+
+  unfoldable pub treeOf : Tree → List ℕ
+  treeOf Lightest = lightestOf
+  treeOf Shortest = shortestOf
+  treeOf Between = betweenOf
+
+  -- REFUSALS
+  unfoldable pub joinedToSource : ℕ → Bool
+  joinedToSource v = joined (n .segments) (n .head .posts) ok (n .head .source) v
+
+  -- "Building: 1, 2, 3, 4; then for each segment in turn 5, 6, 7; then 8; then 9."
+  unfoldable pub buildRefusal : ℕ → Lent → Option Refusal
+  buildRefusal m lent = first (netLines ok m n ++ (lentLines (n .head .posts) lent ++ joinedLines (n .head .posts) joinedToSource))
+
+  -- "Margin: 1 to 7, then 9, then 19."
+  unfoldable pub marginRefusal : ℕ → ℕ → Option Refusal
+  marginRefusal m post = first (netLines ok m n ++ (joinedLines (n .head .posts) joinedToSource ++ postLines (n .head .posts) post))
+
+-- ANSWERS. length and radius of a tree
+pub record Measured : Type 0 where
+  pub length : ℕ
+  pub radius : ℕ
+
+-- "length and radius of each tree and the count of laid paths", or a refusal
+pub data BuildAnswer : Type 0 where
+  built : (lightest shortest between : Measured) (laid : ℕ) → BuildAnswer
+  refused : Refusal → BuildAnswer
+
+pub data MarginAnswer : Type 0 where
+  margin : ℤ → MarginAnswer
+  refused : Refusal → MarginAnswer
+
+module _ (ok : ℕ → Bool) (n : Net) where
+  unfoldable pub measured : Tree → Measured
+  measured t =
+      record {
+        length = whole (n .segments) (n .head .posts) (treeOf ok n t);
+        radius = radius (n .segments) (n .head .posts) (treeOf ok n t);
+      }
+
+  unfoldable pub buildAnswer : Option Refusal → BuildAnswer
+  buildAnswer none = built (measured Lightest) (measured Shortest) (measured Between) (length (laidOf ok n))
+  buildAnswer (some r) = refused r
+
+  -- what building answers
+  unfoldable pub buildOf : ℕ → Lent → BuildAnswer
+  buildOf m lent = buildAnswer (buildRefusal ok n m lent)
+
+  -- a lent list afterwards: the tree's entries, "Entries beyond the post count stay as they were."; after a refusal "what it held before"
+  unfoldable pub listAfter : Option Refusal → Tree → List ℕ → List ℕ
+  listAfter none t l = treeOf ok n t ++ drop (n .head .posts) l
+  listAfter (some r) t l = l
+
+  unfoldable pub afterBuild : ℕ → Lent → Tree → List ℕ → List ℕ
+  afterBuild m lent t l = listAfter (buildRefusal ok n m lent) t l
+
+  -- "(p + q) × D minus q × path in the tree"
+  unfoldable pub marginIn : Tree → ℕ → ℤ
+  marginIn t v = marginBy (n .head .p) (n .head .q) (at (leastLengthsOf ok n) v) (pathIn (n .segments) (n .head .posts) (treeOf ok n t) v)
+
+  unfoldable pub marginAnswer : Option Refusal → Tree → ℕ → MarginAnswer
+  marginAnswer none t v = margin (marginIn t v)
+  marginAnswer (some r) t v = refused r
+
+  -- what margin answers
+  unfoldable pub marginOf : ℕ → Tree → ℕ → MarginAnswer
+  marginOf m t v = marginAnswer (marginRefusal ok n m v) t v

@@ -1,0 +1,116 @@
+-- A net: "a number of posts, a source post, a ratio p/q and a list of segments". What a segment joins; routes and chains; sets of segments.
+-- A *present* test `ok` on segment numbers picks a part of a net: all of it (`every`), the segments before one of them, the segments of a tree.
+use mathlib.Core.Path.{_≡_}
+use mathlib.Core.Logic.{_⊎_}
+use mathlib.Core.Bool.{Bool, true, false, not, _&&_, _||_, cond}
+use mathlib.Core.List.{List, [], _∷_}
+use Prim.Native.Nat.{ℕ, zero, suc, _+_, _<_}
+use lib.Dec.{eqb, ltb}
+use lib.ListN.{length, getD, take}
+use Rattle.net.specs.Words.{sum, counted}
+use Rattle.net.specs.declared.Segment.{Segment}
+use Rattle.net.specs.declared.Head.{Head}
+
+-- NUMBERS THAT BOUND A NET
+-- "Posts 1 to 256, numbered from 0."
+abbrev pub mostPosts : ℕ
+mostPosts = 256
+
+-- "Segments 0 to 2,048, numbered from 0 in list order."
+abbrev pub mostSegments : ℕ
+mostSegments = 2048
+
+-- "Length 1 to 1,048,575."
+abbrev pub longest : ℕ
+longest = 1048575
+
+-- "p 0 to 10,000, q 1 to 10,000."
+abbrev pub mostRatio : ℕ
+mostRatio = 10000
+
+-- the head has the number of posts, the source and the ratio
+pub record Net : Type 0 where
+  pub head : Head
+  pub segments : List Segment
+
+-- the net of a head and of the first m segments of a list
+abbrev pub netOf : Head → ℕ → List Segment → Net
+netOf head m segs = record { head = head; segments = take m segs }
+
+-- three lists side by side: a segment for each place that all three have
+abbrev pub segmentsOf : List ℕ → List ℕ → List ℕ → List Segment
+segmentsOf (x ∷ xs) (y ∷ ys) (l ∷ ls) = record { a = x; b = y; length = l } ∷ segmentsOf xs ys ls
+segmentsOf (x ∷ xs) (y ∷ ys) [] = []
+segmentsOf (x ∷ xs) [] ls = []
+segmentsOf [] ys ls = []
+
+-- what stands behind a list's end: nothing that is said of a net looks there
+abbrev pub beyond : Segment
+beyond = record { a = 0; b = 0; length = 0 }
+
+-- every segment is there
+abbrev pub every : ℕ → Bool
+every i = true
+
+module _ (segs : List Segment) where
+  abbrev pub segmentAt : ℕ → Segment
+  segmentAt i = getD segs i beyond
+
+  abbrev pub lengthAt : ℕ → ℕ
+  lengthAt i = (segmentAt i) .length
+
+  -- segment i has an end at v
+  abbrev pub touches : ℕ → ℕ → Bool
+  touches i v = eqb ((segmentAt i) .a) v || eqb ((segmentAt i) .b) v
+
+  -- the other end of segment i, which has an end at v
+  abbrev pub other : ℕ → ℕ → ℕ
+  other i v = cond (eqb ((segmentAt i) .a) v) ((segmentAt i) .b) ((segmentAt i) .a)
+
+  -- segment i leads from u to v: it has an end at u, and its other end is v
+  pub record Leads (i u v : ℕ) : Type 0 where
+    pub is-segment : i < length segs
+    pub ends : touches i u ≡ true
+    pub across : other i u ≡ v
+
+  -- a route from u to v by segments that are there, as the list of their numbers
+  pub data Route (ok : ℕ → Bool) : ℕ → List ℕ → ℕ → Type 0 where
+    here : {u : ℕ} → Route ok u [] u
+    by : {u v x i : ℕ} {is : List ℕ} → Leads i u v → ok i ≡ true → Route ok v is x → Route ok u (i ∷ is) x
+
+  -- a chain of segments that are there joins u and v: there is a route
+  pub record Chain (ok : ℕ → Bool) (u v : ℕ) : Type 0 where
+    pub is : List ℕ
+    pub route : Route ok u is v
+
+-- what a route comes to, a segment i counted as w i
+abbrev pub weigh : (ℕ → ℕ) → List ℕ → ℕ
+weigh w [] = 0
+weigh w (i ∷ is) = w i + weigh w is
+
+module _ (segs : List Segment) where
+  -- the length of a route
+  abbrev pub routeLength : List ℕ → ℕ
+  routeLength is = weigh (lengthAt segs) is
+
+  -- "Order segments by length, then number": i stands before j
+  unfoldable pub before : ℕ → ℕ → Bool
+  before i j = ltb (lengthAt segs i) (lengthAt segs j) || (eqb (lengthAt segs i) (lengthAt segs j) && ltb i j)
+
+  -- the same said as a rule
+  abbrev pub Before : ℕ → ℕ → Type 0
+  Before i j = (lengthAt segs i < lengthAt segs j) ⊎ ((lengthAt segs i ≡ lengthAt segs j) × (i < j))
+
+  -- the whole length of a set of segments
+  abbrev pub setLength : (ℕ → Bool) → ℕ
+  setLength U = sum (length segs) (λ i. counted (U i) (lengthAt segs i))
+
+  -- U is made of segments that are there, and joins each of n posts to s
+  pub record JoinsAll (ok : ℕ → Bool) (n s : ℕ) (U : ℕ → Bool) : Type 0 where
+    pub made-of : (i : ℕ) → U i ≡ true → ok i ≡ true
+    pub joins : (v : ℕ) → v < n → Chain segs U s v
+
+  -- a spanning tree: it joins all posts, and has no ring: no chain of its other segments joins the ends of one of them
+  pub record SpanningTree (ok : ℕ → Bool) (n s : ℕ) (U : ℕ → Bool) : Type 0 where
+    pub spans : JoinsAll ok n s U
+    pub no-ring : (i : ℕ) → i < length segs → U i ≡ true → Chain segs (λ j. U j && not (eqb j i)) ((segmentAt segs i) .a) ((segmentAt segs i) .b) → ⊥

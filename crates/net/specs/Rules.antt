@@ -1,0 +1,103 @@
+-- The refusals of a net as rules, one constructor for each number, without tests and in document 01's order: each says that nothing before it holds.
+-- proofs/Refusals proves that every net has an answer by these rules, that it has no other, and that the table of `Refusals` gives it.
+use mathlib.Core.Path.{_≡_}
+use mathlib.Core.Logic.{_⊎_}
+use mathlib.Core.Bool.{Bool, true}
+use mathlib.Core.Option.{Option, none, some}
+use mathlib.Core.List.{List}
+use Prim.Native.Nat.{ℕ, _≤_, _<_}
+use lib.ListN.{length}
+use Rattle.net.specs.Net.{Net, mostPosts, mostSegments, longest, mostRatio, segmentAt, Chain}
+use Rattle.net.specs.Refusals.{refusal, Lent}
+use Rattle.net.specs.declared.Segment.{Segment}
+use Rattle.net.specs.declared.Head.{Head}
+use Rattle.net.specs.declared.Refusal.{Refusal}
+
+-- 1 does not hold
+pub record PostsSound (h : Head) : Type 0 where
+  pub some-posts : 1 ≤ h .posts
+  pub few-posts : h .posts ≤ mostPosts
+
+-- nor 2, nor 3
+pub record HeadSound (h : Head) : Type 0 where
+  pub posts-sound : PostsSound h
+  pub source-in : h .source < h .posts
+  pub some-q : 1 ≤ h .q
+  pub small-p : h .p ≤ mostRatio
+  pub small-q : h .q ≤ mostRatio
+
+-- 5 does not hold of a segment
+pub record EndsSound (posts : ℕ) (s : Segment) : Type 0 where
+  pub a-in : s .a < posts
+  pub b-in : s .b < posts
+
+-- nor 6, nor 7
+pub record SegmentSound (posts : ℕ) (s : Segment) : Type 0 where
+  pub ends-sound : EndsSound posts s
+  pub apart : s .a ≡ s .b → ⊥
+  pub some-length : 1 ≤ s .length
+  pub not-too-long : s .length ≤ longest
+
+-- m is the number of segments
+module _ (ok : ℕ → Bool) (m : ℕ) (n : Net) where
+  -- 1 to 4 do not hold, nor 5 to 7 of any segment below k that is there
+  pub record SoundTo (k : ℕ) : Type 0 where
+    pub head-sound : HeadSound (n .head)
+    pub few-segments : m ≤ mostSegments
+    pub segments-sound : (j : ℕ) → j < k → ok j ≡ true → SegmentSound (n .head .posts) (segmentAt (n .segments) j)
+
+  -- none of 1 to 7 holds
+  abbrev pub NetSound : Type 0
+  NetSound = SoundTo (length (n .segments))
+
+  -- 1 to 7, with their places
+  pub data Faulty : Refusal → Type 0 where
+    one : (n .head .posts ≡ 0) ⊎ (mostPosts < n .head .posts) → Faulty (refusal 1 0)
+    two : PostsSound (n .head) → n .head .posts ≤ n .head .source → Faulty (refusal 2 0)
+    three : PostsSound (n .head) → n .head .source < n .head .posts
+        → (n .head .q ≡ 0) ⊎ ((mostRatio < n .head .p) ⊎ (mostRatio < n .head .q)) → Faulty (refusal 3 0)
+    four : HeadSound (n .head) → mostSegments < m → Faulty (refusal 4 0)
+    five : {i : ℕ} → SoundTo i → i < length (n .segments) → ok i ≡ true
+        → (n .head .posts ≤ (segmentAt (n .segments) i) .a) ⊎ (n .head .posts ≤ (segmentAt (n .segments) i) .b) → Faulty (refusal 5 i)
+    six : {i : ℕ} → SoundTo i → i < length (n .segments) → ok i ≡ true → EndsSound (n .head .posts) (segmentAt (n .segments) i)
+        → (segmentAt (n .segments) i) .a ≡ (segmentAt (n .segments) i) .b → Faulty (refusal 6 i)
+    seven : {i : ℕ} → SoundTo i → i < length (n .segments) → ok i ≡ true → EndsSound (n .head .posts) (segmentAt (n .segments) i)
+        → ((segmentAt (n .segments) i) .a ≡ (segmentAt (n .segments) i) .b → ⊥)
+        → ((segmentAt (n .segments) i) .length ≡ 0) ⊎ (longest < (segmentAt (n .segments) i) .length) → Faulty (refusal 7 i)
+
+  -- post v has a route to the source
+  abbrev pub Joined : ℕ → Type 0
+  Joined v = Chain (n .segments) ok (n .head .source) v
+
+  -- "some post isn't joined to the source", v the lowest
+  pub record LowestApart (v : ℕ) : Type 0 where
+    pub is-post : v < n .head .posts
+    pub not-joined : Joined v → ⊥
+    pub lower-joined : (u : ℕ) → u < v → Joined u
+
+  -- every post is joined to the source
+  abbrev pub AllJoined : Type 0
+  AllJoined = (v : ℕ) → v < n .head .posts → Joined v
+
+  -- a lent tree list has fewer entries than posts; and none has
+  abbrev pub TooShort : Lent → Type 0
+  TooShort lent = (lent .lightest < n .head .posts) ⊎ ((lent .shortest < n .head .posts) ⊎ (lent .between < n .head .posts))
+
+  pub record LongEnough (lent : Lent) : Type 0 where
+    pub lightest-long : n .head .posts ≤ lent .lightest
+    pub shortest-long : n .head .posts ≤ lent .shortest
+    pub between-long : n .head .posts ≤ lent .between
+
+  -- building: 1 to 7, then 8, then 9; none where nothing holds
+  pub data BuildRule (lent : Lent) : Option Refusal → Type 0 where
+    one-to-seven : {r : Refusal} → Faulty r → BuildRule lent (some r)
+    eight : NetSound → TooShort lent → BuildRule lent (some (refusal 8 0))
+    nine : {v : ℕ} → NetSound → LongEnough lent → LowestApart v → BuildRule lent (some (refusal 9 v))
+    nothing : NetSound → LongEnough lent → AllJoined → BuildRule lent none
+
+  -- margin: 1 to 7, then 9, then 19
+  pub data MarginRule (post : ℕ) : Option Refusal → Type 0 where
+    one-to-seven : {r : Refusal} → Faulty r → MarginRule post (some r)
+    nine : {v : ℕ} → NetSound → LowestApart v → MarginRule post (some (refusal 9 v))
+    nineteen : NetSound → AllJoined → n .head .posts ≤ post → MarginRule post (some (refusal 19 0))
+    nothing : NetSound → AllJoined → post < n .head .posts → MarginRule post none
