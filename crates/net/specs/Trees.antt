@@ -19,7 +19,27 @@ noneYet = 281474976710656
 abbrev pub at : List ℕ → ℕ → ℕ
 at l v = getD l v noneYet
 
--- LEAST LENGTHS. n is the number of posts
+-- LEAST LENGTHS, and hanging by them
+module _ (segs : List Segment) (ok : ℕ → Bool) (w : ℕ → ℕ) where
+  -- x is what some route from s to v comes to, and no route comes to less
+  pub record IsLeast (s v x : ℕ) : Type 0 where
+    pub is : List ℕ
+    pub route : Route segs ok s is v
+    pub comes-to : weigh w is ≡ x
+    pub no-less : (js : List ℕ) → Route segs ok s js v → x ≤ weigh w js
+
+  -- i leads to v from some u with l(u) plus what i counts for equal to l(v)
+  abbrev pub fits : List ℕ → ℕ → ℕ → Bool
+  fits l v i = ok i && touches segs i v && eqb (at l (other segs i v) + w i) (at l v)
+
+  -- v hangs by i, the lowest-numbered of the segments that fit, said as a rule
+  pub record HangsBy (l : List ℕ) (v i : ℕ) : Type 0 where
+    pub there : ok i ≡ true
+    pub leads : Leads segs i (other segs i v) v
+    pub adds : at l (other segs i v) + w i ≡ at l v
+    pub lowest-fit : (j : ℕ) → j < i → Leads segs j (other segs j v) v → ok j ≡ true → at l (other segs j v) + w j ≡ at l v → ⊥
+
+-- the same computed; n is the number of posts
 module _ (segs : List Segment) (ok : ℕ → Bool) (w : ℕ → ℕ) (n : ℕ) where
   -- v takes the least of what it has and of what a segment offers it
   unfoldable pub better : List ℕ → ℕ → ℕ
@@ -33,27 +53,9 @@ module _ (segs : List Segment) (ok : ℕ → Bool) (w : ℕ → ℕ) (n : ℕ) w
   unfoldable pub least : ℕ → List ℕ
   least s = each n (λ _ l. round l) (tab n (λ v. cond (eqb v s) 0 noneYet))
 
-  -- the same said as a rule: x is what some route comes to, and no route comes to less
-  pub record IsLeast (s v x : ℕ) : Type 0 where
-    pub is : List ℕ
-    pub route : Route segs ok s is v
-    pub comes-to : weigh w is ≡ x
-    pub no-less : (js : List ℕ) → Route segs ok s js v → x ≤ weigh w js
-
-  -- HANGING. i leads to v from some u with l(u) plus what i counts for equal to l(v)
-  abbrev pub fits : List ℕ → ℕ → ℕ → Bool
-  fits l v i = ok i && touches segs i v && eqb (at l (other segs i v) + w i) (at l v)
-
   -- each post by the lowest-numbered segment that fits, and by none where none does
   unfoldable pub hung : List ℕ → List ℕ
-  hung l = tab n (λ v. lowest (length segs) (fits l v))
-
-  -- the same said as a rule
-  pub record HangsBy (l : List ℕ) (v i : ℕ) : Type 0 where
-    pub there : ok i ≡ true
-    pub leads : Leads segs i (other segs i v) v
-    pub adds : at l (other segs i v) + w i ≡ at l v
-    pub lowest-fit : (j : ℕ) → j < i → Leads segs j (other segs j v) v → ok j ≡ true → at l (other segs j v) + w j ≡ at l v → ⊥
+  hung l = tab n (λ v. lowest (length segs) (fits segs ok w l v))
 
 -- each segment counted as 1
 abbrev pub one : ℕ → ℕ

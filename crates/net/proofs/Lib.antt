@@ -1,0 +1,5 @@
+pub mod Words
+pub mod Sums
+pub mod Routes
+pub mod Least
+pub mod Hung
