@@ -83,7 +83,7 @@ marked [] = 0
 marked (true ∷ bs) = suc (marked bs)
 marked (false ∷ bs) = marked bs
 
-marked-drop : (bs : List Bool) (u : ℕ) → getD bs u false ≡ true → marked bs ≡ suc (marked (set bs u false))
+pub marked-drop : (bs : List Bool) (u : ℕ) → getD bs u false ≡ true → marked bs ≡ suc (marked (set bs u false))
 marked-drop [] u e = absurd (let z : _≡_ {A = ℕ} 0 1 = cc in omega arith)
 marked-drop (true ∷ bs) zero e = refl
 marked-drop (false ∷ bs) zero e = absurd (let z : _≡_ {A = ℕ} 0 1 = cc in omega arith)
