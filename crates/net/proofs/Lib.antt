@@ -4,5 +4,10 @@ pub mod Routes
 pub mod Least
 pub mod Hung
 pub mod Climbs
+pub mod Used
 pub mod Steps
 pub mod Notes
+pub mod Tour
+pub mod Cost
+pub mod Length
+pub mod Twice

@@ -116,7 +116,7 @@ module _ (g : Given) (ok : ℕ → Bool) (s : ℕ) (owed : Owed g ok s) where
 
   -- LAYING
   -- a post that is above its least length is not the source, and has a direct path
-  late-step : (v : ℕ) (n : Notes) → v < g .posts → Fine g ok s n → at (g .D) v < at (n .d) v → DirectStep g ok (owed .rank) v
+  pub late-step : (v : ℕ) (n : Notes) → v < g .posts → Fine g ok s n → at (g .D) v < at (n .d) v → DirectStep g ok (owed .rank) v
   late-step v n k f h = owed .direct v k (λ e. omega (arith, ap (at (n .d)) e, f .at-source)) (omega (arith, f .low v k))
 
   pub fine-lay : (k v : ℕ) (n : Notes) → v < g .posts → Fine g ok s n → Fine g ok s (lay g k v n)
@@ -191,7 +191,7 @@ module _ (g : Given) (ok : ℕ → Bool) (s : ℕ) (owed : Owed g ok s) where
   start-source : at ((atStart (g .posts) s) .d) s ≡ 0
   start-source = start-note s (owed .below) ∙ rw (eq-eqb s s refl)
 
-  start-entry : (v : ℕ) → v < g .posts → entry ((atStart (g .posts) s) .entries) v ≡ noSegment
+  pub start-entry : (v : ℕ) → v < g .posts → entry ((atStart (g .posts) s) .entries) v ≡ noSegment
   unfolding atStart
   start-entry v h = getD-replicate (g .posts) v noSegment noSegment h
 
