@@ -5,10 +5,12 @@ use Rattle.net.specs.Net.{before}
 use Rattle.net.specs.Trees.{better, round, least, hung, fewest, joined, hungFrom, belongs, belonging, lightest, leastLengths, hangingWeight, shortest, pathUp, pathIn, radius, whole, marginBy}
 use Rattle.net.specs.Walk.{atStart, hangBy, try, lay, count, enter, walk}
 use Rattle.net.specs.Building.{lightestOf, leastLengthsOf, shortestOf, givenOf, walkOf, betweenOf, laidOf, treeOf, joinedToSource, buildRefusal, marginRefusal, measured, buildAnswer, buildOf, listAfter, afterBuild, marginIn, marginAnswer, marginOf}
+use lib.Ieee.{round as nearest}
+use Rattle.drawn.specs.Drawn.{drawnOf}
 use Rattle.promises.specs.Worked.{Worked}
 
 pub worked : Worked
-unfolding first headLines segmentLines presentLines allSegmentLines netLines lentLines joinedLines postLines before better round least hung fewest joined hungFrom belongs belonging lightest leastLengths hangingWeight shortest pathUp pathIn radius whole marginBy atStart hangBy try lay count enter walk lightestOf leastLengthsOf shortestOf givenOf walkOf betweenOf laidOf treeOf joinedToSource buildRefusal marginRefusal measured buildAnswer buildOf listAfter afterBuild marginIn marginAnswer marginOf
+unfolding drawnOf nearest first headLines segmentLines presentLines allSegmentLines netLines lentLines joinedLines postLines before better round least hung fewest joined hungFrom belongs belonging lightest leastLengths hangingWeight shortest pathUp pathIn radius whole marginBy atStart hangBy try lay count enter walk lightestOf leastLengthsOf shortestOf givenOf walkOf betweenOf laidOf treeOf joinedToSource buildRefusal marginRefusal measured buildAnswer buildOf listAfter afterBuild marginIn marginAnswer marginOf
 worked =
     record {
       a-lightest = refl;
@@ -53,4 +55,14 @@ worked =
       margin-refuses-9 = refl;
       margin-refuses-19 = refl;
       margin-of-source = refl;
+      drawn-12-5 = refl;
+      drawn-longest = refl;
+      drawn-65536 = refl;
+      drawn-0-0625 = refl;
+      drawn-0-03125 = refl;
+      drawn-0-1 = refl;
+      drawn-minus-1 = refl;
+      drawn-minus-0 = refl;
+      drawn-corner = refl;
+      drawn-corner-long = refl;
     }

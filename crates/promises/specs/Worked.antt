@@ -11,6 +11,12 @@ use Rattle.net.specs.Walk.{Notes}
 use Rattle.net.specs.Building.{BuildAnswer, built, refused, MarginAnswer, margin, Measured, buildOf, afterBuild, marginOf, treeOf, walkOf}
 use Rattle.net.specs.Building as B
 use Rattle.net.specs.declared.Segment.{Segment}
+use Rattle.drawn.specs.Drawn.{drawnOf}
+use Rattle.drawn.specs.Says.{Says, sixteenths, saysOf}
+use Rattle.drawn.specs.Says as S
+use Rattle.drawn.specs.Examples.{mm, minus-mm}
+use Rattle.drawn.specs.declared.Run.{Run}
+use Rattle.drawn.specs.declared.Run.the-variants.{Straight, Corner}
 use Rattle.net.specs.declared.Tree.{Tree}
 use Rattle.net.specs.declared.Tree.the-variants.{Lightest, Shortest, Between}
 
@@ -60,6 +66,13 @@ refusedWith number place = refused (refusal number place)
 
 abbrev pub marginRefused : ℕ → ℕ → MarginAnswer
 marginRefused number place = B.MarginAnswer.refused (refusal number place)
+
+-- what a drawn run's answer says
+abbrev pub drawnSays : Run → Says
+drawnSays run = saysOf (drawnOf run)
+
+abbrev pub drawnRefused : ℕ → ℕ → Says
+drawnRefused number place = S.refused number place
 
 pub record Worked : Type 0 where
   -- NET A. "Lightest 0 1 2, length 12, radius 12. Shortest 0 4 3, length 15, radius 6."
@@ -115,3 +128,17 @@ pub record Worked : Type 0 where
   pub margin-refuses-9 : marginOf every (bare 2) 0 Lightest 2 ≡ marginRefused 9 1
   pub margin-refuses-19 : marginOf every (bare 1) 0 Lightest 1 ≡ marginRefused 19 0
   pub margin-of-source : marginOf every (netA 1 1) 5 Between 0 ≡ margin (pos 0)
+  -- DRAWN RUNS. (P) "12.5 gives 200."
+  pub drawn-12-5 : drawnSays (Straight (mm 125 10)) ≡ sixteenths 200
+  -- (P) "65,535.9375 gives 1,048,575; 65,536 is refused with 17."
+  pub drawn-longest : drawnSays (Straight (mm 655359375 10000)) ≡ sixteenths 1048575
+  pub drawn-65536 : drawnSays (Straight (mm 65536 1)) ≡ drawnRefused 17 0
+  -- "0.0625 gives 1; (P) 0.03125 and 0.1 are refused with 16."
+  pub drawn-0-0625 : drawnSays (Straight (mm 625 10000)) ≡ sixteenths 1
+  pub drawn-0-03125 : drawnSays (Straight (mm 3125 100000)) ≡ drawnRefused 16 0
+  pub drawn-0-1 : drawnSays (Straight (mm 1 10)) ≡ drawnRefused 16 0
+  -- "−1: 14. Minus zero: 15. A corner of 10 and 2.5 gives 200; one of 65,535.9375 and 0.0625 is refused with 17, place 2."
+  pub drawn-minus-1 : drawnSays (Straight (minus-mm 1 1)) ≡ drawnRefused 14 0
+  pub drawn-minus-0 : drawnSays (Straight (minus-mm 0 1)) ≡ drawnRefused 15 0
+  pub drawn-corner : drawnSays (Corner (mm 10 1) (mm 25 10)) ≡ sixteenths 200
+  pub drawn-corner-long : drawnSays (Corner (mm 655359375 10000) (mm 625 10000)) ≡ drawnRefused 17 2

@@ -1,0 +1,87 @@
+// Document 01's worked examples of drawn runs and the edges of the f64s, on the compiled code.
+// One line each: the run as drawn, then `length` and its sixteenths, or `refused`, the number and
+// the place. The file `stdout` beside src/ has what must be written. Relies on `drawn`.
+use drawn::Answer;
+use drawn::Run;
+use libc::STDOUT_FILENO;
+
+// Writes a run's name and its answer as one line.
+fn show(name: &[u8], run: Run) {
+    let answer = drawn::drawn(run);
+    io::write_all(STDOUT_FILENO, name);
+    match answer {
+        Answer::Length(sixteenths) => {
+            io::write_all(STDOUT_FILENO, b": length ");
+            io::print_decimal(STDOUT_FILENO, sixteenths as u64);
+        }
+        Answer::Refused(refusal) => {
+            let number = refusal.number;
+            let place = refusal.place;
+            io::write_all(STDOUT_FILENO, b": refused ");
+            io::print_decimal(STDOUT_FILENO, number as u64);
+            io::write_all(STDOUT_FILENO, b" ");
+            io::print_decimal(STDOUT_FILENO, place as u64);
+        }
+    }
+    io::write_all(STDOUT_FILENO, b"\n");
+}
+
+// The straight runs of document 01.
+fn straight_runs() {
+    show(b"12.5", Run::Straight(12.5));
+    show(b"65535.9375", Run::Straight(65535.9375));
+    show(b"65536", Run::Straight(65536.0));
+    show(b"0.0625", Run::Straight(0.0625));
+    show(b"0.03125", Run::Straight(0.03125));
+    show(b"0.1", Run::Straight(0.1));
+    show(b"0/0", Run::Straight(0.0 / 0.0));
+    show(b"1/0", Run::Straight(1.0 / 0.0));
+    show(b"-1/0", Run::Straight(-1.0 / 0.0));
+    show(b"-1", Run::Straight(-1.0));
+    show(b"-0", Run::Straight(-0.0));
+    show(b"0", Run::Straight(0.0));
+}
+
+// The f64s of least and of largest size, of either sign, the two next to 65,535.9375, and two
+// whole numbers: one power of two, and one that is none.
+fn edges() {
+    show(b"5e-324", Run::Straight(5e-324));
+    show(b"-5e-324", Run::Straight(-5e-324));
+    show(
+        b"1.7976931348623157e308",
+        Run::Straight(1.7976931348623157e308),
+    );
+    show(
+        b"-1.7976931348623157e308",
+        Run::Straight(-1.7976931348623157e308),
+    );
+    show(b"65535.93750000001", Run::Straight(65535.93750000001));
+    show(b"65535.93749999999", Run::Straight(65535.93749999999));
+    show(b"32768", Run::Straight(32768.0));
+    show(b"65535", Run::Straight(65535.0));
+}
+
+// Corners: those of document 01, and a refusal at each place.
+fn corners() {
+    show(b"10, 2.5", Run::Corner(10.0, 2.5));
+    show(b"65535.9375, 0.0625", Run::Corner(65535.9375, 0.0625));
+    show(b"65535.875, 0.0625", Run::Corner(65535.875, 0.0625));
+    show(
+        b"65535.9375, 65535.9375",
+        Run::Corner(65535.9375, 65535.9375),
+    );
+    show(b"0.1, -1", Run::Corner(0.1, -1.0));
+    show(b"1, 0/0", Run::Corner(1.0, 0.0 / 0.0));
+    show(b"1, -1", Run::Corner(1.0, -1.0));
+    show(b"1, -0", Run::Corner(1.0, -0.0));
+    show(b"1, 0.1", Run::Corner(1.0, 0.1));
+    show(b"1, 65536", Run::Corner(1.0, 65536.0));
+    show(b"-1, 0/0", Run::Corner(-1.0, 0.0 / 0.0));
+    show(b"0/0, 0/0", Run::Corner(0.0 / 0.0, 0.0 / 0.0));
+}
+
+fn main() {
+    straight_runs();
+    edges();
+    corners();
+}
