@@ -11,3 +11,5 @@ pub mod Tour
 pub mod Cost
 pub mod Length
 pub mod Twice
+pub mod Shortest
+pub mod Between

@@ -74,6 +74,10 @@ module _ (segs : List Segment) (n : ℕ) where
   unfoldable pub hungFrom : ℕ → (ℕ → Bool) → List ℕ
   hungFrom s ok = hung segs ok one n (fewest ok s)
 
+-- what a segment counts for where the shortest tree is hung: its length
+unfoldable pub hangingWeight : List Segment → ℕ → ℕ
+hangingWeight segs i = lengthAt segs i
+
 module _ (segs : List Segment) (ok : ℕ → Bool) (n : ℕ) where
   -- LIGHTEST. "A segment belongs exactly if no chain of segments before it in that order joins its ends."
   abbrev pub earlier : ℕ → ℕ → Bool
@@ -102,13 +106,9 @@ module _ (segs : List Segment) (ok : ℕ → Bool) (n : ℕ) where
   unfoldable pub leastLengths : ℕ → List ℕ
   leastLengths s = least segs ok (lengthAt segs) n s
 
-  -- what a segment counts for where the shortest tree is hung: its length
-  unfoldable pub hangingWeight : ℕ → ℕ
-  hangingWeight i = lengthAt segs i
-
   -- "Post v hangs by the lowest-numbered segment from some u with D(u) plus its length equal to D(v)."
   unfoldable pub shortest : ℕ → List ℕ
-  shortest s = hung segs ok hangingWeight n (least segs ok hangingWeight n s)
+  shortest s = hung segs ok (hangingWeight segs) n (least segs ok (hangingWeight segs) n s)
 
 -- A TREE is "a list with one entry for each post: the number of the segment by which the post hangs on its parent, and 65,535 for the source".
 -- What stands behind the n entries of a longer list is not looked at.
