@@ -1,9 +1,9 @@
 -- What a walk comes to, over any tree that is given and any ratios: each post of the tree walked is reached, by a climb within its limit (`between-climb`);
 -- the two inequalities of the laid paths' cost (`between-length` of Length, and `laid-twice`), and from them the length's bound against the tree walked (`between-weight`).
-use mathlib.Core.Path.{_≡_, refl, sym, ap, _∙_}
-use mathlib.Core.Bool.{Bool, true, false}
+use mathlib.Core.Path.{_≡_}
+use mathlib.Core.Bool.{Bool, true}
 use mathlib.Core.List.{List}
-use Prim.Native.Nat.{ℕ, zero, suc, _+_, _*_, _≤_, _<_}
+use Prim.Native.Nat.{ℕ, suc, _+_, _*_, _≤_, _<_}
 use native.Mathlib.Omega.{arith}
 use native.Mathlib.Nat.{mul-le-mul-left, mul-add, add-mul, mul-assoc, mul-left-comm, le-trans}
 use lib.ListN.{length}
@@ -12,9 +12,9 @@ use Rattle.net.specs.Net.{other, weigh}
 use Rattle.net.specs.Trees.{noneYet, at, entry, Climb, pathIn, whole}
 use Rattle.net.specs.Walk.{Notes, Given, atStart, child, walk}
 use Rattle.net.proofs.Climbs.{falling-climb, climb-path}
-use Rattle.net.proofs.Notes.{Owed, Fine}
-use Rattle.net.proofs.Tour.{Down, tour, tour-enters, fine-walk, entered-limit}
-use Rattle.net.proofs.Cost.{Small, way, laid-cost, entered-near}
+use Rattle.net.proofs.Notes.{Owed}
+use Rattle.net.proofs.Tour.{Down, tour-enters, fine-walk, entered-limit}
+use Rattle.net.proofs.Cost.{Small, laid-cost, entered-near}
 use Rattle.net.proofs.Length.{between-length}
 use Rattle.net.proofs.Twice.{tour-twice}
 

@@ -2,17 +2,16 @@
 -- there are posts, so that `pathIn` follows it to its end (`climb-path`). No segment need have a length above 0.
 -- Then the tree of entries under falling notes: it stays a tree when a post is hung anew (`anew`, `at-new`).
 use mathlib.Core.Path.{_≡_, refl, sym, ap, _∙_, subst}
-use mathlib.Core.Bool.{Bool, true, false, not}
+use mathlib.Core.Bool.{Bool, true, false}
 use mathlib.Core.List.{List, [], _∷_, _++_}
 use Prim.Native.Nat.{ℕ, zero, suc, _+_, _-_, _≤_, _<_}
 use native.Mathlib.Omega.{arith}
 use native.Mathlib.Decide.{ℕ-discrete}
 use lib.ListN.{length, getD, set, replicate, getD-replicate}
 use lib.Seq.{getD-set-other}
-use lib.Dec.{eqb}
-use borrow.Author.Tests.{ne-eqb, eq-eqb}
-use Rattle.net.specs.Words.{only, noSegment}
-use Rattle.net.specs.Net.{lengthAt, other, Leads, Route, here, by, routeLength, Chain}
+use borrow.Author.Tests.{ne-eqb}
+use Rattle.net.specs.Words.{noSegment}
+use Rattle.net.specs.Net.{lengthAt, Leads, Route, here, routeLength, Chain}
 use Rattle.net.specs.Trees.{entry, hangs, parent, Climb, arrived, up, pathUp, pathIn}
 use Rattle.net.specs.declared.Segment.{Segment}
 use Rattle.net.proofs.Routes.{leads-back, snoc, weigh-snoc, marked, marked-drop}

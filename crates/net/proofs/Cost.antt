@@ -1,14 +1,14 @@
 -- What the laid paths cost: p × (the least lengths of the posts laid) is at most q × (the way walked), p/q no larger than the ratio of any post laid (`laid-cost`).
 -- One inequality along the way carries it: standing at x after a way w, p × ΣD(laid) + q × d(x) ≤ q × w.
 -- And a post's note is at most the way walked until it is entered (`entered-near`).
-use mathlib.Core.Path.{_≡_, refl, sym, ap, _∙_, subst}
-use mathlib.Core.Bool.{Bool, true, false}
+use mathlib.Core.Path.{_≡_, ap, _∙_}
+use mathlib.Core.Bool.{Bool}
 use mathlib.Core.List.{List, [], _∷_, _++_}
-use Prim.Native.Nat.{ℕ, zero, suc, _+_, _*_, _≤_, _<_}
+use Prim.Native.Nat.{ℕ, _+_, _*_, _≤_, _<_}
 use native.Mathlib.Omega.{arith}
-use native.Mathlib.Nat.{mul-le-mul-left, mul-le-mul-right, le-of-mul-le-mul-left, mul-zero, mul-add, zero-mul, zero-add, add-assoc, pos-of-ne-zero, le-of-lt, le-trans}
+use native.Mathlib.Nat.{mul-le-mul-left, mul-le-mul-right, le-of-mul-le-mul-left, mul-add, zero-mul, zero-add, add-assoc, pos-of-ne-zero, le-of-lt}
 use lib.ListN.{length}
-use Rattle.net.specs.Net.{lengthAt, Leads, weigh}
+use Rattle.net.specs.Net.{lengthAt, weigh}
 use Rattle.net.specs.Trees.{at}
 use Rattle.net.specs.Walk.{Notes, Given, atStart, try, lay, count, enter, walk}
 use Rattle.net.specs.declared.Segment.{Segment}

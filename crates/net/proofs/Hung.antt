@@ -1,14 +1,14 @@
 -- What the entries of a hung list say (`hung-says`: the rule `HangsBy`), which posts hang (`hung-hangs`), and that the source doesn't (`hung-source`).
-use mathlib.Core.Path.{_≡_, refl, sym, ap, _∙_}
-use mathlib.Core.Bool.{Bool, true, false, not, _&&_}
-use mathlib.Core.List.{List, [], _∷_, _++_}
-use Prim.Native.Nat.{ℕ, zero, suc, _+_, _*_, _≤_, _<_}
+use mathlib.Core.Path.{_≡_, refl, sym, _∙_}
+use mathlib.Core.Bool.{Bool, true, _&&_}
+use mathlib.Core.List.{List, [], _∷_}
+use Prim.Native.Nat.{ℕ, _+_, _≤_, _<_}
 use native.Mathlib.Omega.{arith}
 use native.Mathlib.Decide.{decLt, ℕ-discrete}
 use lib.ListN.{length}
 use lib.Dec.{eqb}
 use borrow.Author.Tests.{eqb-true, eq-eqb}
-use Rattle.net.specs.Words.{noSegment, tab, lowest}
+use Rattle.net.specs.Words.{noSegment, lowest}
 use Rattle.net.proofs.Words.{and-i, and-left, and-right, clash, tab-at, length-tab, Lowest, found, nothing, lowest-is}
 use Rattle.net.specs.Net.{touches, other, Leads, Route, here, by, weigh}
 use Rattle.net.proofs.Routes.{leads-back, snoc, weigh-snoc}

@@ -1,20 +1,20 @@
 -- The bridge from what is computed to routes: `least` is what the least route comes to (`least-is-least`), `joined` passes exactly where there is a
 -- route (`joined-chain`, `chain-joined`), and any list that is settled is this list (`settled-is`). Ends are asked only of segments that are there.
 use mathlib.Core.Path.{_≡_, refl, sym, ap, _∙_}
-use mathlib.Core.Bool.{Bool, true, false, not, _&&_, _||_, cond}
+use mathlib.Core.Bool.{Bool, true, false, _&&_, _||_, cond}
 use mathlib.Core.List.{List, [], _∷_, _++_}
 use Prim.Native.Nat.{ℕ, zero, suc, _+_, _*_, _≤_, _<_}
 use native.Mathlib.Omega.{arith}
-use native.Mathlib.Decide.{decLt, decLe, ℕ-discrete}
-use lib.ListN.{length, getD, replicate, getD-replicate}
+use native.Mathlib.Decide.{decLt, decLe}
+use lib.ListN.{length, replicate, getD-replicate}
 use lib.Seq.{ext-getD}
 use native.Mathlib.Nat.{le-trans}
-use lib.Dec.{eqb, ltb}
-use borrow.Author.Tests.{eqb-true, eqb-false, eq-eqb, ne-eqb, ltb-true, lt-ltb}
-use Rattle.net.specs.Words.{each, tab, leastOf}
+use lib.Dec.{eqb}
+use borrow.Author.Tests.{eqb-true, eq-eqb, ltb-true, lt-ltb}
+use Rattle.net.specs.Words.{each, tab}
 use Rattle.net.proofs.Words.{and-i, and-left, and-right, clash, length-tab, tab-at, tab-out, each-inner, From, kept, of, leastOf-start, leastOf-le, leastOf-from}
 use Rattle.net.specs.Net.{segmentAt, touches, other, Leads, Route, here, by, Chain, weigh}
-use Rattle.net.proofs.Routes.{leads-back, snoc, weigh-snoc, marked, Short, Within, shorten, weigh-most}
+use Rattle.net.proofs.Routes.{leads-back, snoc, weigh-snoc, marked, Within, shorten, weigh-most}
 use Rattle.net.specs.Trees.{noneYet, at, better, round, least, IsLeast, fewest, joined, one}
 use Rattle.net.specs.declared.Segment.{Segment}
 

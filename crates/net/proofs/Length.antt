@@ -1,16 +1,15 @@
 -- The tree that the walk leaves is at most as long as the tree walked and the least lengths of the posts laid together (`between-length`).
 -- Along the walk, the entries that are no segments of the tree walked come to no more than ΣD(laid); those that are come to no more than that tree.
-use mathlib.Core.Path.{_≡_, refl, sym, ap, _∙_}
+use mathlib.Core.Path.{_≡_, refl, ap}
 use mathlib.Core.Bool.{Bool, true, false, not, _&&_}
-use mathlib.Core.List.{List, [], _∷_}
-use Prim.Native.Nat.{ℕ, zero, suc, _+_, _*_, _≤_, _<_}
+use mathlib.Core.List.{List}
+use Prim.Native.Nat.{ℕ, zero, suc, _+_, _≤_, _<_}
 use native.Mathlib.Omega.{arith}
 use lib.ListN.{length, set}
 use lib.Seq.{getD-set-same, getD-set-other}
 use lib.Dec.{eqb}
-use borrow.Author.Tests.{ne-eqb}
 use Rattle.net.specs.Words.{sum, counted, noSegment}
-use Rattle.net.specs.Net.{lengthAt, other, Leads, weigh, setLength}
+use Rattle.net.specs.Net.{lengthAt, other, Leads, weigh}
 use Rattle.net.specs.Trees.{at, entry, hangs, parent, whole}
 use Rattle.net.specs.Walk.{Notes, Given, atStart, hangBy, try, lay, count, enter, walk}
 use Rattle.net.proofs.Words.{counted-le}
@@ -19,7 +18,7 @@ use Rattle.net.proofs.Routes.{leads-back, far-end}
 use Rattle.net.proofs.Least.{leads-from, leads-to}
 use Rattle.net.proofs.Used.{usedBy, entryLength, used-cost, list-cost}
 use Rattle.net.proofs.Steps.{try-cases, lay-cases, enter-cases, lay-none, try-laid, lay-laid, count-entries, count-laid}
-use Rattle.net.proofs.Notes.{Owed, DirectStep, Fine, Hooked, late-step, fine-try, fine-lay, fine-enter, fine-start, start-entry, start-laid, hooked}
+use Rattle.net.proofs.Notes.{Owed, Fine, late-step, fine-try, fine-lay, fine-enter, fine-start, start-entry, hooked}
 use Rattle.net.proofs.Tour.{Move, tour, moves, moves-enter, moves-try, moves-none, walk-is-tour, Trip, stay, enters, goes, tour-trip, fine-moves}
 
 module _ (g : Given) where

@@ -1,3 +1,4 @@
+-- The laws of a net's definitions, each file above only what it needs; the proofs of the checks in code stand beside them in folders.
 pub mod Words
 pub mod Sums
 pub mod Routes
@@ -5,6 +6,9 @@ pub mod Least
 pub mod Hung
 pub mod Climbs
 pub mod Used
+pub mod Belongs
+pub mod Exchange
+pub mod Lightest
 pub mod Steps
 pub mod Notes
 pub mod Tour

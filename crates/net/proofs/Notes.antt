@@ -2,17 +2,17 @@
 -- of the posts with a note are a tree. Laying brings a post's note down to its least length (`lay-down`); on entering, a post meets its limit (`enter-limit`).
 -- No length above 0 is asked, and a direct path only of posts that have a route.
 use mathlib.Core.Path.{_≡_, refl, sym, ap, _∙_}
-use mathlib.Core.Bool.{Bool, true, false, not, cond}
-use mathlib.Core.List.{List, [], _∷_}
+use mathlib.Core.Bool.{Bool, true, not, cond}
+use mathlib.Core.List.{List, []}
 use Prim.Native.Nat.{ℕ, zero, suc, _+_, _*_, _≤_, _<_}
 use native.Mathlib.Omega.{arith}
-use native.Mathlib.Nat.{mul-le-mul-left, mul-le-mul-right, add-mul, le-trans}
+use native.Mathlib.Nat.{mul-le-mul-left, add-mul, le-trans}
 use native.Mathlib.Decide.{ℕ-discrete}
-use lib.ListN.{length, set, length-set, replicate, length-replicate, getD-replicate}
+use lib.ListN.{length, length-set, length-replicate, getD-replicate}
 use lib.Seq.{getD-set-same, getD-set-other}
 use lib.Dec.{eqb}
-use borrow.Author.Tests.{eqb-true, eq-eqb, ne-eqb}
-use Rattle.net.specs.Words.{noSegment, tab}
+use borrow.Author.Tests.{eq-eqb, ne-eqb}
+use Rattle.net.specs.Words.{noSegment}
 use Rattle.net.specs.Net.{lengthAt, Leads}
 use Rattle.net.specs.Trees.{noneYet, at, entry, hangs, parent}
 use Rattle.net.specs.Walk.{Notes, Given, atStart, hangBy, try, lay, count, enter, child}
@@ -20,7 +20,7 @@ use Rattle.net.proofs.Words.{tab-at, length-tab, clash}
 use Rattle.net.proofs.Routes.{leads-back}
 use Rattle.net.proofs.Least.{Inside, leads-from, leads-to}
 use Rattle.net.proofs.Climbs.{Falling, source, step, HungAnew, anew-falls, at-new, anew}
-use Rattle.net.proofs.Steps.{try-cases, lay-cases, enter-cases, lay-none, try-note, count-d, count-entries}
+use Rattle.net.proofs.Steps.{try-cases, lay-cases, enter-cases, lay-none, try-note, count-d}
 
 -- a post's entry in the shortest tree leads one step down its direct path
 pub record DirectStep (g : Given) (ok : ℕ → Bool) (rank : ℕ → ℕ) (v : ℕ) : Type 0 where

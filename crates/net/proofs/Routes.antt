@@ -5,12 +5,13 @@ use mathlib.Core.List.{List, [], _∷_, _++_}
 use Prim.Native.Nat.{ℕ, zero, suc, _+_, _*_, _≤_, _<_}
 use native.Mathlib.Omega.{arith}
 use native.Mathlib.Nat.{suc-mul}
-use native.Mathlib.Decide.{decLt, decLe, ℕ-discrete}
+use native.Mathlib.Decide.{ℕ-discrete}
 use lib.ListN.{length, getD, set}
 use lib.Seq.{getD-set-other}
+use mathlib.Core.Logic.{inl, inr}
 use lib.Dec.{eqb}
-use borrow.Author.Tests.{eqb-true, eqb-false, eq-eqb, ne-eqb}
-use Rattle.net.proofs.Words.{and-i, and-left, and-right, or-right, not-true, clash}
+use borrow.Author.Tests.{eqb-true, eq-eqb, ne-eqb}
+use Rattle.net.proofs.Words.{and-i, and-left, and-right, or-right, not-true, so-false, true-or-false, clash}
 use Rattle.net.specs.Net.{segmentAt, touches, other, Leads, Route, here, by, Chain, weigh}
 use Rattle.net.specs.declared.Segment.{Segment}
 
@@ -151,10 +152,6 @@ module _ (segs : List Segment) where
       go here = stay
       go (by {u = u} {v = v} {i = i} l o r) = join (f i u v l o) (go r)
 
-  -- the same chain, where more segments are there
-  pub widen : {ok ok′ : ℕ → Bool} → ((i : ℕ) → ok i ≡ true → ok′ i ≡ true) → {u v : ℕ} → Chain segs ok u v → Chain segs ok′ u v
-  widen f c = record { is = c .is; route = weaken segs f (c .route) }
-
   back-route : {ok : ℕ → Bool} {u v : ℕ} {is : List ℕ} → Route segs ok u is v → Chain segs ok v u
   back-route here = stay
   back-route (by l o r) = join (back-route r) (along (leads-back segs l) o)
@@ -190,3 +187,58 @@ pub weigh-most : (segs : List Segment) (c : ℕ) (w : ℕ → ℕ) {ok : ℕ →
     → {u v : ℕ} {is : List ℕ} → Route segs ok u is v → weigh w is ≤ length is * c
 weigh-most segs c w f here = omega arith
 weigh-most segs c w f (by {i = i} {is = is} l o r) = omega (arith, f i (l .is-segment) o, weigh-most segs c w f r, suc-mul (length is) c)
+
+-- A CHAIN WITHOUT ONE SEGMENT
+-- the segments of U but m
+abbrev pub without : (ℕ → Bool) → ℕ → ℕ → Bool
+without U m j = U j && not (eqb j m)
+
+-- m is not among them
+pub without-self : (U : ℕ → Bool) (m : ℕ) → without U m m ≡ false
+without-self U m = so-false (without U m m) (λ e. clash (eq-eqb m m refl) (not-true (eqb m m) (and-right (U m) (not (eqb m m)) e)))
+
+-- and all the others are
+pub without-keeps : (U : ℕ → Bool) (m j : ℕ) → U j ≡ true → (j ≡ m → ⊥) → without U m j ≡ true
+without-keeps U m j o ne = and-i o (rw (ne-eqb j m ne))
+
+-- a chain from u to v keeps to the segments of L, or does so up to some x and from some y on, where m leads from x to y
+pub data Through (segs : List Segment) (L U : ℕ → Bool) (u v : ℕ) : Type 0 where
+  avoids : Chain segs L u v → Through segs L U u v
+  meets : {m x y : ℕ} → U m ≡ true → L m ≡ false → Chain segs L u x → Leads segs m x y → Chain segs L y v → Through segs L U u v
+
+module _ (segs : List Segment) where
+  -- the same chain, where more of the net's segments are there
+  pub widen : {ok ok′ : ℕ → Bool} → ((i : ℕ) → i < length segs → ok i ≡ true → ok′ i ≡ true) → {u v : ℕ} → Chain segs ok u v → Chain segs ok′ u v
+  widen f c = replaced segs (λ i u v l o. along segs l (f i (l .is-segment) o)) c
+
+  module _ (L U : ℕ → Bool) (only-one : (i j : ℕ) → i < length segs → j < length segs → U i ≡ true → L i ≡ false → U j ≡ true → L j ≡ false → i ≡ j) where
+    -- m leads from u to w, and again from x to y, from where L goes on to v
+    met-again : {m u w x y v : ℕ} → U m ≡ true → L m ≡ false → Leads segs m u w → Leads segs m x y → Chain segs L y v → Through segs L U u v
+    met-again {m} {u} {w} {x} {y} {v} o e l k c = elim (ℕ-discrete y u) [
+      | yes q ↦ avoids (rw q at c)
+      | no q ↦ elim (ℕ-discrete y w) [
+        | yes r ↦ meets o e (stay segs) l (rw r at c)
+        | no r ↦ absurd (clash ((leads-back segs k) .ends) (no-third segs y l q r))
+      ]
+    ]
+
+    met-first : {i u w v : ℕ} → U i ≡ true → L i ≡ false → Leads segs i u w → Through segs L U w v → Through segs L U u v
+    met-first o e l (avoids c) = meets o e (stay segs) l c
+    met-first {i} {u} {w} {v} o e l (meets {m = m} p f c k d) =
+        let q : m ≡ i = only-one m i (k .is-segment) (l .is-segment) p f o e in
+        met-again o e l (rw q at k) d
+
+    not-met : {i u w v : ℕ} → L i ≡ true → Leads segs i u w → Through segs L U w v → Through segs L U u v
+    not-met e l (avoids c) = avoids (join segs (along segs l e) c)
+    not-met e l (meets p f c k d) = meets p f (join segs (along segs l e) c) k d
+
+    through-route : {u v : ℕ} {is : List ℕ} → Route segs U u is v → Through segs L U u v
+    through-route here = avoids (stay segs)
+    through-route (by {i = i} l o r) = elim (true-or-false (L i)) [
+      | inl e ↦ not-met e l (through-route r)
+      | inr e ↦ met-first o e l (through-route r)
+    ]
+
+    -- where L has all the segments of U but one, a chain of U needs that one no more than once
+    pub through : {u v : ℕ} → Chain segs U u v → Through segs L U u v
+    through c = through-route (c .route)

@@ -1,8 +1,8 @@
 -- The shortest tree: what its entries say (`short-says`), that from each post with a route a climb leads to the source, of the least length
 -- (`short-climb`), and that with its lengths it is all that a walk over any tree is owed (`owed`).
 -- Only what a segment counts for where the tree is hung must be above 0.
-use mathlib.Core.Path.{_≡_, refl, sym, ap, _∙_}
-use mathlib.Core.Bool.{Bool, true, false}
+use mathlib.Core.Path.{_≡_, refl, ap}
+use mathlib.Core.Bool.{Bool, true}
 use mathlib.Core.List.{List}
 use Prim.Native.Nat.{ℕ, zero, suc, _+_, _≤_, _<_}
 use native.Mathlib.Omega.{arith}
@@ -10,13 +10,13 @@ use native.Mathlib.Decide.{ℕ-discrete}
 use lib.ListN.{length}
 use lib.Dec.{ltb}
 use borrow.Author.Tests.{ltb-true, lt-ltb, le-ltb}
-use Rattle.net.specs.Words.{sum, counted, noSegment}
-use Rattle.net.specs.Net.{lengthAt, other, Leads, Chain}
+use Rattle.net.specs.Words.{sum, noSegment}
+use Rattle.net.specs.Net.{lengthAt}
 use Rattle.net.specs.Trees.{noneYet, at, least, hung, HangsBy, leastLengths, hangingWeight, shortest, entry, parent, Climb, arrived, up}
 use Rattle.net.specs.Walk.{Given, child}
 use Rattle.net.specs.declared.Segment.{Segment}
 use Rattle.net.proofs.Words.{bit, counted-le, counted-mono}
-use Rattle.net.proofs.Sums.{sum-le, sum-lt, sum-ones}
+use Rattle.net.proofs.Sums.{sum-lt, sum-ones}
 use Rattle.net.proofs.Least.{Inside, leads-from, least-most}
 use Rattle.net.proofs.Hung.{length-hung, hung-says, hung-hangs, hung-source, least-no-better, least-zero}
 use Rattle.net.proofs.Notes.{DirectStep, Owed}

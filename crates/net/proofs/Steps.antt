@@ -1,14 +1,13 @@
 -- The steps of the walk by cases; no note rises; trying and laying count no post; what each try keeps, laying keeps.
-use mathlib.Core.Path.{_≡_, refl, sym, ap, _∙_}
+use mathlib.Core.Path.{_≡_, refl, _∙_}
 use mathlib.Core.Bool.{Bool, true, false}
-use mathlib.Core.List.{List, [], _∷_}
+use mathlib.Core.List.{List, _∷_}
 use Prim.Native.Nat.{ℕ, zero, suc, _+_, _*_, _≤_, _<_}
 use native.Mathlib.Omega.{arith}
 use native.Mathlib.Nat.{le-refl, le-trans}
 use native.Mathlib.Decide.{decLt, ℕ-discrete}
-use lib.ListN.{length, getD, set}
+use lib.ListN.{length, set}
 use lib.Seq.{getD-set-same, getD-set-other, set-out}
-use lib.Dec.{ltb}
 use borrow.Author.Tests.{ltb-true, ltb-false}
 use Rattle.net.specs.Words.{only}
 use Rattle.net.specs.Net.{lengthAt}

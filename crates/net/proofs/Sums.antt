@@ -3,8 +3,8 @@ use mathlib.Core.Path.{_≡_, refl, sym, ap, _∙_}
 use Prim.Native.Nat.{ℕ, zero, suc, _+_, _*_, _≤_, _<_}
 use native.Mathlib.Omega.{arith}
 use native.Mathlib.Decide.{decLt, ℕ-discrete}
-use native.Mathlib.Nat.{mul-add, add-mul, zero-mul}
-use Rattle.net.specs.Words.{each, sum}
+use native.Mathlib.Nat.{add-mul, zero-mul}
+use Rattle.net.specs.Words.{sum}
 
 pub sum-le : (n : ℕ) (f h : ℕ → ℕ) → ((i : ℕ) → i < n → f i ≤ h i) → sum n f ≤ sum n h
 sum-le zero f h k = omega arith

@@ -12,7 +12,7 @@ use lib.Dec.{eqb}
 use borrow.Author.Tests.{eqb-true}
 use Rattle.net.specs.Words.{each, only}
 use Rattle.net.specs.Net.{touches, other, Leads}
-use Rattle.net.specs.Trees.{at, entry, parent}
+use Rattle.net.specs.Trees.{entry, parent}
 use Rattle.net.specs.Walk.{Notes, Given, atStart, try, enter, child, walk}
 use Rattle.net.proofs.Words.{and-left, and-right}
 use Rattle.net.proofs.Routes.{leads-back}

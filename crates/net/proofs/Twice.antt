@@ -19,7 +19,7 @@ use Rattle.net.proofs.Sums.{sum-le, sum-only, sum-swap, sum-add, sum-on
 use Rattle.net.proofs.Least.{leads-to}
 use Rattle.net.proofs.Used.{entryLength}
 use Rattle.net.proofs.Notes.{Owed}
-use Rattle.net.proofs.Tour.{Move, entering, trying, tour, leg, legs, Down, stop, deeper, child-leads, child-entry, child-parent}
+use Rattle.net.proofs.Tour.{Move, trying, tour, leg, legs, Down, stop, deeper, child-leads, child-entry, child-parent}
 use Rattle.net.proofs.Cost.{way, way-append}
 
 module _ (g : Given) where

@@ -1,20 +1,24 @@
 -- A tree list against sets of segments: the segments by which its posts hang come to no more than its whole length (`used-cost`), and its posts that hang
 -- by segments of a set come to no more than the set, where no two hang by one segment that has a length (`list-cost`).
 use mathlib.Core.Path.{_≡_, refl, sym, ap, _∙_}
-use mathlib.Core.Bool.{Bool, true, false, not, _&&_}
+use mathlib.Core.Bool.{Bool, true, false, _&&_}
 use mathlib.Core.List.{List}
-use Prim.Native.Nat.{ℕ, zero, suc, _+_, _≤_, _<_}
+use Prim.Native.Nat.{ℕ, _≤_, _<_}
 use native.Mathlib.Omega.{arith}
 use native.Mathlib.Decide.{decLt}
 use lib.ListN.{length}
 use lib.Dec.{eqb, ltb}
-use borrow.Author.Tests.{eqb-true, eq-eqb, ne-eqb, ltb-true, lt-ltb}
+use borrow.Author.Tests.{eqb-true, eqb-false, eq-eqb, ne-eqb, ltb-true, lt-ltb}
 use Rattle.net.specs.Words.{sum, counted, noSegment}
 use Rattle.net.specs.Net.{lengthAt, setLength}
 use Rattle.net.specs.Trees.{entry, hangs, whole}
 use Rattle.net.specs.declared.Segment.{Segment}
-use Rattle.net.proofs.Words.{and-i, and-left, and-right, counted-le, counted-pos, counted-mono, bit}
+use Rattle.net.proofs.Words.{and-left, and-right, not-true, counted-pos, counted-mono, bit}
 use Rattle.net.proofs.Sums.{sum-le, sum-only, sum-swap, sum-one-of, sum-some}
+
+-- the entry of a post that hangs is not 65,535
+pub hangs-entry : (t : List ℕ) (v : ℕ) → hangs t v ≡ true → entry t v ≡ noSegment → ⊥
+hangs-entry t v e k = eqb-false (entry t v) noSegment (not-true (eqb (entry t v) noSegment) e) k
 
 -- some post of the list hangs by segment i
 unfoldable pub usedBy : ℕ → List ℕ → ℕ → Bool

@@ -1,13 +1,13 @@
 -- What building and margin answer, and what the lent lists hold afterwards, for every input.
 -- The number of segments, m, is given beside the net: an array may hold fewer than are claimed, and 4 looks at the claim.
-use mathlib.Core.Bool.{Bool, true, false}
-use mathlib.Core.List.{List, [], _∷_, _++_}
+use mathlib.Core.Bool.{Bool}
+use mathlib.Core.List.{List, _++_}
 use mathlib.Core.Option.{Option, none, some}
 use Prim.Native.Nat.{ℕ}
 use lib.ListN.{length, drop}
 use lib.IntN.{ℤ}
 use Rattle.net.specs.Net.{Net}
-use Rattle.net.specs.Refusals.{Line, Lent, first, netLines, lentLines, joinedLines, postLines}
+use Rattle.net.specs.Refusals.{Lent, first, netLines, lentLines, joinedLines, postLines}
 use Rattle.net.specs.Trees.{at, joined, leastLengths, lightest, shortest, pathIn, radius, whole, marginBy}
 use Rattle.net.specs.Walk.{Notes, Given, atStart, walk}
 use Rattle.net.specs.declared.Refusal.{Refusal}

@@ -2,9 +2,9 @@
 -- A *present* test `ok` on segment numbers picks a part of a net: all of it (`every`), the segments before one of them, the segments of a tree.
 use mathlib.Core.Path.{_≡_}
 use mathlib.Core.Logic.{_⊎_}
-use mathlib.Core.Bool.{Bool, true, false, not, _&&_, _||_, cond}
+use mathlib.Core.Bool.{Bool, true, not, _&&_, _||_, cond}
 use mathlib.Core.List.{List, [], _∷_}
-use Prim.Native.Nat.{ℕ, zero, suc, _+_, _<_}
+use Prim.Native.Nat.{ℕ, _+_, _<_}
 use lib.Dec.{eqb, ltb}
 use lib.ListN.{length, getD, take}
 use Rattle.net.specs.Words.{sum, counted}
@@ -107,7 +107,7 @@ module _ (segs : List Segment) where
 
   -- U is made of segments that are there, and joins each of n posts to s
   pub record JoinsAll (ok : ℕ → Bool) (n s : ℕ) (U : ℕ → Bool) : Type 0 where
-    pub made-of : (i : ℕ) → U i ≡ true → ok i ≡ true
+    pub made-of : (i : ℕ) → i < length segs → U i ≡ true → ok i ≡ true
     pub joins : (v : ℕ) → v < n → Chain segs U s v
 
   -- a spanning tree: it joins all posts, and has no ring: no chain of its other segments joins the ends of one of them

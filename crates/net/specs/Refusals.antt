@@ -1,9 +1,9 @@
 -- The table of refusals that concern a net: each line a test, a number and a place, in document 01's order. The answer is the first line whose test passes.
 -- `Rules` says the same line by line without tests, and proofs/Refusals joins the two.
-use mathlib.Core.Bool.{Bool, true, false, not, _&&_, _||_, cond}
+use mathlib.Core.Bool.{Bool, true, false, not, _||_, cond}
 use mathlib.Core.List.{List, [], _∷_, _++_}
 use mathlib.Core.Option.{Option, none, some}
-use Prim.Native.Nat.{ℕ, zero, suc}
+use Prim.Native.Nat.{ℕ}
 use lib.Dec.{eqb, ltb, leb}
 use lib.ListN.{length}
 use Rattle.net.specs.Words.{each}

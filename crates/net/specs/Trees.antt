@@ -2,7 +2,7 @@
 -- Over a part of a net that `ok` picks and, where it matters, over what a segment counts for, `w`.
 use mathlib.Core.Path.{_≡_}
 use mathlib.Core.Bool.{Bool, true, false, not, _&&_, cond}
-use mathlib.Core.List.{List, [], _∷_}
+use mathlib.Core.List.{List}
 use Prim.Native.Nat.{ℕ, zero, suc, _+_, _*_, _≤_, _<_}
 use lib.Dec.{eqb, ltb}
 use lib.ListN.{length, getD}
@@ -117,6 +117,13 @@ entry t v = getD t v noSegment
 
 abbrev pub hangs : List ℕ → ℕ → Bool
 hangs t v = not (eqb (entry t v) noSegment)
+
+-- the entries of the list t are exactly the segments that belong: each of them belongs, each that belongs where s leads is one, and no two posts have the same
+pub record ExactlyBelonging (segs : List Segment) (ok : ℕ → Bool) (n s : ℕ) (t : List ℕ) : Type 0 where
+  pub is-segment : (v : ℕ) → v < n → (entry t v ≡ noSegment → ⊥) → entry t v < length segs
+  pub each-belongs : (v : ℕ) → v < n → (entry t v ≡ noSegment → ⊥) → Belongs segs ok n (entry t v)
+  pub each-hangs : (i : ℕ) → i < length segs → Belongs segs ok n i → Chain segs ok s ((segmentAt segs i) .a) → (v : ℕ) × (v < n) × (entry t v ≡ i)
+  pub different : (v x : ℕ) → v < n → x < n → (v ≡ x → ⊥) → (entry t v ≡ noSegment → ⊥) → entry t v ≡ entry t x → ⊥
 
 module _ (segs : List Segment) where
   abbrev pub parent : List ℕ → ℕ → ℕ

@@ -1,5 +1,5 @@
 -- BETWEEN: the notes, try, lay, enter and walk, sentence by sentence as document 01 has them, over any tree list and any ratios.
-use mathlib.Core.Bool.{Bool, true, false, _&&_, cond}
+use mathlib.Core.Bool.{Bool, _&&_, cond}
 use mathlib.Core.List.{List, [], _∷_}
 use Prim.Native.Nat.{ℕ, zero, suc, _+_, _*_}
 use lib.Dec.{eqb, ltb}

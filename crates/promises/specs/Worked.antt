@@ -3,11 +3,10 @@
 use mathlib.Core.Path.{_≡_}
 use mathlib.Core.List.{List, [], _∷_}
 use Prim.Native.Nat.{ℕ}
-use lib.IntN.{ℤ, pos, negsuc}
+use lib.IntN.{pos, negsuc}
 use Rattle.net.specs.Net.{Net, every}
 use Rattle.net.specs.Refusals.{Lent, refusal}
 use Rattle.net.specs.Trees.{pathIn}
-use Rattle.net.specs.Walk.{Notes}
 use Rattle.net.specs.Building.{BuildAnswer, built, refused, MarginAnswer, margin, Measured, buildOf, afterBuild, marginOf, treeOf, walkOf}
 use Rattle.net.specs.Building as B
 use Rattle.net.specs.declared.Segment.{Segment}
