@@ -17,3 +17,6 @@ pub mod Length
 pub mod Twice
 pub mod Shortest
 pub mod Between
+pub mod Margin
+pub mod Sound
+pub mod Demand

@@ -3,7 +3,7 @@ use mathlib.Core.Path.{_≡_, refl, sym, ap, _∙_}
 use Prim.Native.Nat.{ℕ, zero, suc, _+_, _*_, _≤_, _<_}
 use native.Mathlib.Omega.{arith}
 use native.Mathlib.Decide.{decLt, ℕ-discrete}
-use native.Mathlib.Nat.{add-mul, zero-mul}
+use native.Mathlib.Nat.{add-mul, zero-mul, suc-mul}
 use Rattle.net.specs.Words.{sum}
 
 pub sum-le : (n : ℕ) (f h : ℕ → ℕ) → ((i : ℕ) → i < n → f i ≤ h i) → sum n f ≤ sum n h
@@ -72,6 +72,11 @@ sum-some (suc n) f h = elim (decLt 0 (f n)) [
 pub sum-mul : (n : ℕ) (f : ℕ → ℕ) (c : ℕ) → sum n (λ i. f i * c) ≡ sum n f * c
 sum-mul zero f c = sym (zero-mul c)
 sum-mul (suc n) f c = omega (arith, sum-mul n f c, add-mul (sum n f) (f n) c)
+
+-- no term above c
+pub sum-most : (n c : ℕ) (f : ℕ → ℕ) → ((i : ℕ) → i < n → f i ≤ c) → sum n f ≤ n * c
+sum-most zero c f h = omega arith
+sum-most (suc n) c f h = omega (arith, sum-most n c f (λ i k. h i (omega arith)), h n (omega arith), suc-mul n c)
 
 -- one term lowered by c
 pub sum-drop : (n : ℕ) (f h : ℕ → ℕ) (v c : ℕ) → v < n → ((x : ℕ) → x < n → (x ≡ v → ⊥) → h x ≤ f x) → h v + c ≤ f v → sum n h + c ≤ sum n f

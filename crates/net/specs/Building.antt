@@ -26,22 +26,18 @@ module _ (ok : ℕ → Bool) (n : Net) where
   unfoldable pub shortestOf : List ℕ
   shortestOf = shortest (n .segments) ok (n .head .posts) (n .head .source)
 
-  -- one ratio for all posts
-  unfoldable pub givenOf : Given
-  givenOf =
-      record {
-        segments = n .segments;
-        posts = n .head .posts;
-        walked = lightestOf;
-        shortest = shortestOf;
-        D = leastLengthsOf;
-        p = λ _. n .head .p;
-        q = λ _. n .head .q;
-      }
+  -- the walk over the lightest tree, at a ratio for each post
+  unfoldable pub givenWith : (ℕ → ℕ) → (ℕ → ℕ) → Given
+  givenWith p q =
+      record { segments = n .segments; posts = n .head .posts; walked = lightestOf; shortest = shortestOf; D = leastLengthsOf; p = p; q = q }
 
   -- "Walk the lightest tree from the source."
+  unfoldable pub walkWith : (ℕ → ℕ) → (ℕ → ℕ) → Notes
+  walkWith p q = walk (givenWith p q) (n .head .posts) (n .head .source) (atStart (n .head .posts) (n .head .source))
+
+  -- one ratio for all posts
   unfoldable pub walkOf : Notes
-  walkOf = walk givenOf (n .head .posts) (n .head .source) (atStart (n .head .posts) (n .head .source))
+  walkOf = walkWith (λ _. n .head .p) (λ _. n .head .q)
 
   unfoldable pub betweenOf : List ℕ
   betweenOf = (walkOf) .entries

@@ -4,13 +4,13 @@ use Rattle.net.specs.Refusals.{first, headLines, segmentLines, presentLines, al
 use Rattle.net.specs.Net.{before}
 use Rattle.net.specs.Trees.{better, round, least, hung, fewest, joined, hungFrom, belongs, belonging, lightest, leastLengths, hangingWeight, shortest, pathUp, pathIn, radius, whole, marginBy}
 use Rattle.net.specs.Walk.{atStart, hangBy, try, lay, count, enter, walk}
-use Rattle.net.specs.Building.{lightestOf, leastLengthsOf, shortestOf, givenOf, walkOf, betweenOf, laidOf, treeOf, joinedToSource, buildRefusal, marginRefusal, measured, buildAnswer, buildOf, listAfter, afterBuild, marginIn, marginAnswer, marginOf}
+use Rattle.net.specs.Building.{lightestOf, leastLengthsOf, shortestOf, givenWith, walkWith, walkOf, betweenOf, laidOf, treeOf, joinedToSource, buildRefusal, marginRefusal, measured, buildAnswer, buildOf, listAfter, afterBuild, marginIn, marginAnswer, marginOf}
 use lib.Ieee.{round as nearest}
 use Rattle.drawn.specs.Drawn.{drawnOf}
 use Rattle.promises.specs.Worked.{Worked}
 
 pub worked : Worked
-unfolding drawnOf nearest first headLines segmentLines presentLines allSegmentLines netLines lentLines joinedLines postLines before better round least hung fewest joined hungFrom belongs belonging lightest leastLengths hangingWeight shortest pathUp pathIn radius whole marginBy atStart hangBy try lay count enter walk lightestOf leastLengthsOf shortestOf givenOf walkOf betweenOf laidOf treeOf joinedToSource buildRefusal marginRefusal measured buildAnswer buildOf listAfter afterBuild marginIn marginAnswer marginOf
+unfolding drawnOf nearest first headLines segmentLines presentLines allSegmentLines netLines lentLines joinedLines postLines before better round least hung fewest joined hungFrom belongs belonging lightest leastLengths hangingWeight shortest pathUp pathIn radius whole marginBy atStart hangBy try lay count enter walk lightestOf leastLengthsOf shortestOf givenWith walkWith walkOf betweenOf laidOf treeOf joinedToSource buildRefusal marginRefusal measured buildAnswer buildOf listAfter afterBuild marginIn marginAnswer marginOf
 worked =
     record {
       a-lightest = refl;
