@@ -20,3 +20,4 @@ pub mod Between
 pub mod Margin
 pub mod Sound
 pub mod Demand
+pub mod Worked

@@ -6,3 +6,4 @@ pub mod Rules
 pub mod Trees
 pub mod Walk
 pub mod Building
+pub mod Worked

@@ -1,60 +1,15 @@
--- The table of worked examples holds: every row is computed from the definitions.
+-- The one table of worked examples holds: every row is computed from the definitions.
 use mathlib.Core.Path.{refl}
-use Rattle.net.specs.Refusals.{first, headLines, segmentLines, presentLines, allSegmentLines, netLines, lentLines, joinedLines, postLines}
-use Rattle.net.specs.Net.{before}
-use Rattle.net.specs.Trees.{better, round, least, hung, fewest, joined, hungFrom, belongs, belonging, lightest, leastLengths, hangingWeight, shortest, pathUp, pathIn, radius, whole, marginBy}
-use Rattle.net.specs.Walk.{atStart, hangBy, try, lay, count, enter, walk}
-use Rattle.net.specs.Building.{lightestOf, leastLengthsOf, shortestOf, givenWith, walkWith, walkOf, betweenOf, laidOf, treeOf, joinedToSource, buildRefusal, marginRefusal, measured, buildAnswer, buildOf, listAfter, afterBuild, marginIn, marginAnswer, marginOf}
-use lib.Ieee.{round as nearest}
+use lib.Ieee.{round}
+use Rattle.net.proofs.Worked.{nets-worked}
 use Rattle.drawn.specs.Drawn.{drawnOf}
 use Rattle.promises.specs.Worked.{Worked}
 
 pub worked : Worked
-unfolding drawnOf nearest first headLines segmentLines presentLines allSegmentLines netLines lentLines joinedLines postLines before better round least hung fewest joined hungFrom belongs belonging lightest leastLengths hangingWeight shortest pathUp pathIn radius whole marginBy atStart hangBy try lay count enter walk lightestOf leastLengthsOf shortestOf givenWith walkWith walkOf betweenOf laidOf treeOf joinedToSource buildRefusal marginRefusal measured buildAnswer buildOf listAfter afterBuild marginIn marginAnswer marginOf
+unfolding drawnOf round
 worked =
     record {
-      a-lightest = refl;
-      a-shortest = refl;
-      a-1/1 = refl;
-      a-1/1-answer = refl;
-      a-1/1-margin = refl;
-      a-0/1 = refl;
-      a-0/1-answer = refl;
-      a-7/5 = refl;
-      a-7/5-answer = refl;
-      a-7/5-margin = refl;
-      a-6/5 = refl;
-      b-between = refl;
-      b-answer = refl;
-      b-notes = refl;
-      b-path = refl;
-      b-margin = refl;
-      c-between = refl;
-      c-answer = refl;
-      one-post = refl;
-      two-posts = refl;
-      two-up = refl;
-      far-up = refl;
-      far-margin = refl;
-      refuses-1 = refl;
-      refuses-257 = refl;
-      refuses-2 = refl;
-      refuses-3-q = refl;
-      refuses-3-p = refl;
-      refuses-3-large-q = refl;
-      refuses-4 = refl;
-      refuses-5 = refl;
-      refuses-5-first = refl;
-      refuses-6 = refl;
-      refuses-7-zero = refl;
-      refuses-7-long = refl;
-      takes-longest = refl;
-      refuses-8 = refl;
-      refuses-9 = refl;
-      untouched = refl;
-      margin-refuses-9 = refl;
-      margin-refuses-19 = refl;
-      margin-of-source = refl;
+      nets = nets-worked;
       drawn-12-5 = refl;
       drawn-longest = refl;
       drawn-65536 = refl;

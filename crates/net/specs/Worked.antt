@@ -1,0 +1,116 @@
+-- Document 01's nets worked by hand, and nets that tell its slips apart, as one table, a row for each statement. proofs/Worked computes all rows as one theorem,
+-- and the crate `promises` joins them to the one table of all statements marked (P).
+use mathlib.Core.Path.{_≡_}
+use mathlib.Core.List.{List, [], _∷_}
+use Prim.Native.Nat.{ℕ}
+use lib.IntN.{pos, negsuc}
+use Rattle.net.specs.Net.{Net, every}
+use Rattle.net.specs.Refusals.{Lent, refusal}
+use Rattle.net.specs.Trees.{pathIn}
+use Rattle.net.specs.Building.{BuildAnswer, built, refused, MarginAnswer, margin, Measured, buildOf, afterBuild, marginOf, treeOf, walkOf}
+use Rattle.net.specs.Building as B
+use Rattle.net.specs.declared.Segment.{Segment}
+use Rattle.net.specs.declared.Tree.{Tree}
+use Rattle.net.specs.declared.Tree.the-variants.{Lightest, Shortest, Between}
+
+-- segment a–b of that length
+abbrev pub seg : ℕ → ℕ → ℕ → Segment
+seg x y l = record { a = x; b = y; length = l }
+
+abbrev pub net : ℕ → ℕ → ℕ → ℕ → List Segment → Net
+net posts source p q segs = record { head = record { posts = posts; source = source; p = p; q = q }; segments = segs }
+
+abbrev pub netA : ℕ → ℕ → Net
+netA p q = net 4 0 p q (seg 0 1 4 ∷ seg 1 2 4 ∷ seg 2 3 4 ∷ seg 0 3 5 ∷ seg 0 2 6 ∷ [])
+
+abbrev pub netB : Net
+netB = net 5 0 1 2 (seg 0 1 6 ∷ seg 1 2 6 ∷ seg 2 3 1 ∷ seg 2 4 2 ∷ seg 0 4 7 ∷ [])
+
+abbrev pub netC : Net
+netC = net 5 0 1 2 (seg 0 1 4 ∷ seg 1 2 4 ∷ seg 0 2 6 ∷ seg 2 4 5 ∷ seg 4 3 5 ∷ seg 2 3 5 ∷ [])
+
+-- a direct path of two segments: laying it counts one
+abbrev pub netTwo : Net
+netTwo = net 5 0 0 1 (seg 0 3 4 ∷ seg 3 4 4 ∷ seg 4 2 4 ∷ seg 0 1 5 ∷ seg 1 2 5 ∷ [])
+
+-- a line of posts from post 5, with a path of five segments
+abbrev pub netLine : Net
+netLine = net 6 5 1 3 (seg 0 1 1 ∷ seg 2 1 2 ∷ seg 2 3 3 ∷ seg 4 3 4 ∷ seg 4 5 5 ∷ [])
+
+-- posts and no segment
+abbrev pub bare : ℕ → Net
+bare posts = net posts 0 1 2 []
+
+abbrev pub lists : ℕ → Lent
+lists k = record { lightest = k; shortest = k; between = k }
+
+abbrev pub measures : ℕ → ℕ → Measured
+measures long wide = record { length = long; radius = wide }
+
+-- what building answers for a net of m segments with three lists of k entries, and a list of k + 1 entries afterwards, which held 7 everywhere
+abbrev pub answer : Net → ℕ → ℕ → BuildAnswer
+answer n m k = buildOf every n m (lists k)
+
+abbrev pub after : Net → ℕ → ℕ → Tree → List ℕ → List ℕ
+after n m k t l = afterBuild every n m (lists k) t l
+
+abbrev pub refusedWith : ℕ → ℕ → BuildAnswer
+refusedWith number place = refused (refusal number place)
+
+abbrev pub marginRefused : ℕ → ℕ → MarginAnswer
+marginRefused number place = B.MarginAnswer.refused (refusal number place)
+
+pub record NetsWorked : Type 0 where
+  -- NET A. "Lightest 0 1 2, length 12, radius 12. Shortest 0 4 3, length 15, radius 6."
+  pub a-lightest : after (netA 1 1) 5 4 Lightest (7 ∷ 7 ∷ 7 ∷ 7 ∷ 7 ∷ []) ≡ 65535 ∷ 0 ∷ 1 ∷ 2 ∷ 7 ∷ []
+  pub a-shortest : after (netA 1 1) 5 4 Shortest (7 ∷ 7 ∷ 7 ∷ 7 ∷ 7 ∷ []) ≡ 65535 ∷ 0 ∷ 4 ∷ 3 ∷ 7 ∷ []
+  -- (P) "Ratio 1/1: between 0 1 3, length 13, radius 8, one laid. Margin of post 3 in the lightest tree: 10 − 12 = −2."
+  pub a-1/1 : after (netA 1 1) 5 4 Between (7 ∷ 7 ∷ 7 ∷ 7 ∷ 7 ∷ []) ≡ 65535 ∷ 0 ∷ 1 ∷ 3 ∷ 7 ∷ []
+  pub a-1/1-answer : answer (netA 1 1) 5 4 ≡ built (measures 12 12) (measures 15 6) (measures 13 8) 1
+  pub a-1/1-margin : marginOf every (netA 1 1) 5 Lightest 3 ≡ margin (negsuc 1)
+  -- (P) "0/1: 0 4 3, length 15, two laid."
+  pub a-0/1 : after (netA 0 1) 5 4 Between (7 ∷ 7 ∷ 7 ∷ 7 ∷ []) ≡ 65535 ∷ 0 ∷ 4 ∷ 3 ∷ []
+  pub a-0/1-answer : answer (netA 0 1) 5 4 ≡ built (measures 12 12) (measures 15 6) (measures 15 6) 2
+  -- (P) "7/5: 60 isn't above 60, so 0 1 2, none laid."
+  pub a-7/5 : after (netA 7 5) 5 4 Between (7 ∷ 7 ∷ 7 ∷ 7 ∷ []) ≡ 65535 ∷ 0 ∷ 1 ∷ 2 ∷ []
+  pub a-7/5-answer : answer (netA 7 5) 5 4 ≡ built (measures 12 12) (measures 15 6) (measures 12 12) 0
+  pub a-7/5-margin : marginOf every (netA 7 5) 5 Lightest 3 ≡ margin (pos 0)
+  -- "6/5: 0 1 3."
+  pub a-6/5 : after (netA 6 5) 5 4 Between (7 ∷ 7 ∷ 7 ∷ 7 ∷ []) ≡ 65535 ∷ 0 ∷ 1 ∷ 3 ∷ []
+  -- NET B. (P) "Between 0 3 2 4, length 16, one laid. The note of post 3 stays 13, but its path is 10, and the radius is 10."
+  pub b-between : after netB 5 5 Between (7 ∷ 7 ∷ 7 ∷ 7 ∷ 7 ∷ []) ≡ 65535 ∷ 0 ∷ 3 ∷ 2 ∷ 4 ∷ []
+  pub b-answer : answer netB 5 5 ≡ built (measures 15 14) (measures 16 10) (measures 16 10) 1
+  pub b-notes : (walkOf every netB) .d ≡ 0 ∷ 6 ∷ 9 ∷ 13 ∷ 7 ∷ []
+  pub b-path : pathIn (netB .segments) 5 (treeOf every netB Between) 3 ≡ 10
+  pub b-margin : marginOf every netB 5 Between 3 ≡ margin (pos 10)
+  -- NET C. (P) "Lightest length 18; between 0 2 5 3, length 20, radius 11, one laid."
+  pub c-between : after netC 6 5 Between (7 ∷ 7 ∷ 7 ∷ 7 ∷ 7 ∷ []) ≡ 65535 ∷ 0 ∷ 2 ∷ 5 ∷ 3 ∷ []
+  pub c-answer : answer netC 6 5 ≡ built (measures 18 18) (measures 20 11) (measures 20 11) 1
+  -- "One post and no segment: all lengths and radii 0. Two posts, no segment: refused with 9, place 1."
+  pub one-post : answer (bare 1) 0 1 ≡ built (measures 0 0) (measures 0 0) (measures 0 0) 0
+  pub two-posts : answer (bare 2) 0 2 ≡ refusedWith 9 1
+  -- a direct path of two segments counts as one laid
+  pub two-up : answer netTwo 5 5 ≡ built (measures 17 12) (measures 18 10) (measures 18 10) 1
+  -- a path is followed to its end
+  pub far-up : answer netLine 5 6 ≡ built (measures 15 15) (measures 15 15) (measures 15 15) 0
+  pub far-margin : marginOf every netLine 5 Lightest 0 ≡ margin (pos 15)
+  -- REFUSALS, each with its place, a later fault beside it
+  pub refuses-1 : answer (net 0 0 1 0 []) 0 0 ≡ refusedWith 1 0
+  pub refuses-257 : answer (bare 257) 0 257 ≡ refusedWith 1 0
+  pub refuses-2 : answer (net 2 2 1 0 []) 0 2 ≡ refusedWith 2 0
+  pub refuses-3-q : answer (net 2 0 1 0 []) 2049 2 ≡ refusedWith 3 0
+  pub refuses-3-p : answer (net 2 0 10001 1 []) 0 2 ≡ refusedWith 3 0
+  pub refuses-3-large-q : answer (net 2 0 1 10001 []) 0 2 ≡ refusedWith 3 0
+  pub refuses-4 : answer (net 2 0 1 1 (seg 0 0 1 ∷ [])) 2049 2 ≡ refusedWith 4 0
+  pub refuses-5 : answer (net 2 0 1 1 (seg 0 1 1 ∷ seg 0 2 0 ∷ seg 1 1 1 ∷ [])) 3 2 ≡ refusedWith 5 1
+  pub refuses-5-first : answer (net 2 0 1 1 (seg 0 1 1 ∷ seg 2 2 0 ∷ [])) 2 2 ≡ refusedWith 5 1
+  pub refuses-6 : answer (net 2 0 1 1 (seg 0 1 1 ∷ seg 1 1 0 ∷ seg 0 2 1 ∷ [])) 3 2 ≡ refusedWith 6 1
+  pub refuses-7-zero : answer (net 2 0 1 1 (seg 0 1 1 ∷ seg 0 1 0 ∷ [])) 2 1 ≡ refusedWith 7 1
+  pub refuses-7-long : answer (net 2 0 1 1 (seg 0 1 1 ∷ seg 0 1 1048576 ∷ [])) 2 2 ≡ refusedWith 7 1
+  pub takes-longest : answer (net 2 0 1 1 (seg 0 1 1048575 ∷ [])) 1 2 ≡ built (measures 1048575 1048575) (measures 1048575 1048575) (measures 1048575 1048575) 0
+  pub refuses-8 : buildOf every (bare 2) 0 (record { lightest = 2; shortest = 2; between = 1 }) ≡ refusedWith 8 0
+  pub refuses-9 : answer (net 4 0 1 1 (seg 0 2 1 ∷ [])) 1 4 ≡ refusedWith 9 1
+  pub untouched : after (net 4 0 1 1 (seg 0 2 1 ∷ [])) 1 4 Shortest (7 ∷ 8 ∷ 9 ∷ 7 ∷ []) ≡ 7 ∷ 8 ∷ 9 ∷ 7 ∷ []
+  pub margin-refuses-9 : marginOf every (bare 2) 0 Lightest 2 ≡ marginRefused 9 1
+  pub margin-refuses-19 : marginOf every (bare 1) 0 Lightest 1 ≡ marginRefused 19 0
+  pub margin-of-source : marginOf every (netA 1 1) 5 Between 0 ≡ margin (pos 0)
