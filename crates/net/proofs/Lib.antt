@@ -4,6 +4,10 @@ pub mod Sums
 pub mod Routes
 pub mod Least
 pub mod Hung
+pub mod Tables
+pub mod Faults
+pub mod Refusals
+pub mod Checks
 pub mod Climbs
 pub mod Used
 pub mod Belongs
@@ -17,6 +21,7 @@ pub mod Length
 pub mod Twice
 pub mod Shortest
 pub mod Between
+pub mod Fuel
 pub mod Margin
 pub mod Sound
 pub mod Demand

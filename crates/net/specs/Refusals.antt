@@ -7,7 +7,7 @@ use Prim.Native.Nat.{ℕ}
 use lib.Dec.{eqb, ltb, leb}
 use lib.ListN.{length}
 use Rattle.net.specs.Words.{each}
-use Rattle.net.specs.Net.{Net, mostPosts, mostSegments, longest, mostRatio, segmentAt}
+use Rattle.net.specs.Net.{Net, mostPosts, mostSegments, longest, mostRatio, every, segmentAt}
 use Rattle.net.specs.declared.Segment.{Segment}
 use Rattle.net.specs.declared.Head.{Head}
 use Rattle.net.specs.declared.Refusal.{Refusal}
@@ -78,11 +78,16 @@ joinedLines posts joined = each posts (λ v ls. ls ++ (line 9 (not (joined v)) v
 unfoldable pub postLines : ℕ → ℕ → List Line
 postLines posts post = line 19 (leb posts post) 0 ∷ []
 
--- the answer of a check: sound, or document 01's number and place
+-- what a check answers where the table says so
 abbrev pub checkedOf : Option Refusal → Checked
 checkedOf none = Sound
 checkedOf (some r) = Refused r
 
+-- document 01's number and place for each answer of a check: none, or a refusal
 abbrev pub saysOf : Checked → Option Refusal
 saysOf Sound = none
 saysOf (Refused r) = some r
+
+-- what a check of a whole net answers: 1 to 7
+unfoldable pub checkOf : Head → List Segment → Checked
+checkOf head segs = checkedOf (first (netLines every (length segs) (record { head = head; segments = segs })))

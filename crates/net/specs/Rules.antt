@@ -64,6 +64,7 @@ module _ (ok : ℕ → Bool) (m : ℕ) (n : Net) where
         → ((segmentAt (n .segments) i) .a ≡ (segmentAt (n .segments) i) .b → ⊥)
         → ((segmentAt (n .segments) i) .length ≡ 0) ⊎ (longest < (segmentAt (n .segments) i) .length) → Faulty (refusal 7 i)
 
+module _ (ok : ℕ → Bool) (n : Net) where
   -- post v has a route to the source
   abbrev pub Joined : ℕ → Type 0
   Joined v = Chain (n .segments) ok (n .head .source) v
@@ -78,25 +79,26 @@ module _ (ok : ℕ → Bool) (m : ℕ) (n : Net) where
   abbrev pub AllJoined : Type 0
   AllJoined = (v : ℕ) → v < n .head .posts → Joined v
 
-  -- a lent tree list has fewer entries than posts; and none has
-  abbrev pub TooShort : Lent → Type 0
-  TooShort lent = (lent .lightest < n .head .posts) ⊎ ((lent .shortest < n .head .posts) ⊎ (lent .between < n .head .posts))
+-- a lent tree list has fewer entries than posts; and none has
+abbrev pub TooShort : Net → Lent → Type 0
+TooShort n lent = (lent .lightest < n .head .posts) ⊎ ((lent .shortest < n .head .posts) ⊎ (lent .between < n .head .posts))
 
-  pub record LongEnough (lent : Lent) : Type 0 where
-    pub lightest-long : n .head .posts ≤ lent .lightest
-    pub shortest-long : n .head .posts ≤ lent .shortest
-    pub between-long : n .head .posts ≤ lent .between
+pub record LongEnough (n : Net) (lent : Lent) : Type 0 where
+  pub lightest-long : n .head .posts ≤ lent .lightest
+  pub shortest-long : n .head .posts ≤ lent .shortest
+  pub between-long : n .head .posts ≤ lent .between
 
+module _ (ok : ℕ → Bool) (m : ℕ) (n : Net) where
   -- building: 1 to 7, then 8, then 9; none where nothing holds
   pub data BuildRule (lent : Lent) : Option Refusal → Type 0 where
-    one-to-seven : {r : Refusal} → Faulty r → BuildRule lent (some r)
-    eight : NetSound → TooShort lent → BuildRule lent (some (refusal 8 0))
-    nine : {v : ℕ} → NetSound → LongEnough lent → LowestApart v → BuildRule lent (some (refusal 9 v))
-    nothing : NetSound → LongEnough lent → AllJoined → BuildRule lent none
+    one-to-seven : {r : Refusal} → Faulty ok m n r → BuildRule lent (some r)
+    eight : NetSound ok m n → TooShort n lent → BuildRule lent (some (refusal 8 0))
+    nine : {v : ℕ} → NetSound ok m n → LongEnough n lent → LowestApart ok n v → BuildRule lent (some (refusal 9 v))
+    nothing : NetSound ok m n → LongEnough n lent → AllJoined ok n → BuildRule lent none
 
   -- margin: 1 to 7, then 9, then 19
   pub data MarginRule (post : ℕ) : Option Refusal → Type 0 where
-    one-to-seven : {r : Refusal} → Faulty r → MarginRule post (some r)
-    nine : {v : ℕ} → NetSound → LowestApart v → MarginRule post (some (refusal 9 v))
-    nineteen : NetSound → AllJoined → n .head .posts ≤ post → MarginRule post (some (refusal 19 0))
-    nothing : NetSound → AllJoined → post < n .head .posts → MarginRule post none
+    one-to-seven : {r : Refusal} → Faulty ok m n r → MarginRule post (some r)
+    nine : {v : ℕ} → NetSound ok m n → LowestApart ok n v → MarginRule post (some (refusal 9 v))
+    nineteen : NetSound ok m n → AllJoined ok n → n .head .posts ≤ post → MarginRule post (some (refusal 19 0))
+    nothing : NetSound ok m n → AllJoined ok n → post < n .head .posts → MarginRule post none

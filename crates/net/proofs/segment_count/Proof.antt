@@ -1,0 +1,23 @@
+use native.Mathlib.Omega.{arith}
+use borrow.Author.Needs.{needs}
+use Rattle.net.proofs.Checks.{segments-count}
+use Rattle.net.proofs.segment_count.Statement.{statement}
+use Rattle.net.proofs.segment_count.Tie as tie
+use Rattle.net.proofs.segment_count.Reads as reads
+use Rattle.net.proofs.segment_count.Lts as lts
+use Rattle.net.proofs.lesser.Reads as lesser-reads
+
+-- src/lib.rt:131:12
+lesser-requires : tie.Need-lesser-requires
+lesser-requires c κs = search needs
+
+-- src/lib.rt:131:5
+lesser-requires-2 : tie.Need-lesser-requires-2
+lesser-requires-2 c κs = search needs
+
+-- src/lib.rt:128:1
+returns : tie.Need-returns
+returns c = omega (arith, segments-count (c .before .before .before .before .before .args .a .now) (c .before .before .before .before .before .args .b .now) (c .before .before .before .before .before .args .length .now))
+
+pub segment-count-spec : {M : Type 1} → statement M
+segment-count-spec = tie.close (tie.spec lesser-requires lesser-requires-2 returns)
