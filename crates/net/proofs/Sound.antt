@@ -14,7 +14,7 @@ use borrow.Author.Tests.{eq-eqb}
 use Rattle.net.specs.Words.{counted, noSegment}
 use Rattle.net.specs.Net.{Net, mostPosts, longest, lengthAt, other, Chain, weigh, setLength, JoinsAll, SpanningTree}
 use Rattle.net.specs.Rules.{NetSound, AllJoined}
-use Rattle.net.specs.Trees.{noneYet, at, IsLeast, Belongs, leastLengths, hangingWeight, lightest, ExactlyBelonging, entry, hangs, parent, whole, belongsAt, Climb, IsTree, pathIn}
+use Rattle.net.specs.Trees.{noneYet, at, IsLeast, Belongs, leastLengths, hangingWeight, lightest, ExactlyBelonging, entry, hangs, parent, whole, belongsAt, Climb, IsTree, pathIn, HangsBy}
 use Rattle.net.specs.Walk.{Given, atStart, child, walk}
 use Rattle.net.specs.Building.{lightestOf, leastLengthsOf, shortestOf, givenWith, walkWith}
 use Rattle.net.specs.declared.Segment.{Segment}
@@ -24,7 +24,7 @@ use Rattle.net.proofs.Least.{Inside, leads-from, least-small, least-is-
 use Rattle.net.proofs.Routes.{leads-back, join, along}
 use Rattle.net.proofs.Used.{hangs-entry}
 use Rattle.net.proofs.Lightest.{length-lightest, light-says, light-hangs, light-in, depth, depth-parent, depth-few, depth-source, exactly-belonging, light-source, light-climbs, lightest-least, lightest-spans, light-route}
-use Rattle.net.proofs.Shortest.{given, owed, length-shortest, shortest-source, short-climb}
+use Rattle.net.proofs.Shortest.{given, owed, length-shortest, shortest-source, short-climb, short-says}
 use Rattle.net.proofs.Notes.{Owed}
 use Rattle.net.proofs.Tour.{Down, stop, down-on, child-entry, child-parent}
 use Rattle.net.proofs.Belongs.{joins-spans}
@@ -87,6 +87,11 @@ module _ (ok : ℕ → Bool) (m : ℕ) (n : Net) (fits : length (n .segments) �
   unfolding leastLengthsOf leastLengths
   D-is-least v c = least-is-least segs ok (lengthAt segs) posts inside s below v (D-noted v c)
 
+  -- "Post v hangs by the lowest-numbered segment from some u with D(u) plus its length equal to D(v)."
+  pub shortest-says : (v : ℕ) → v < posts → (v ≡ s → ⊥) → Chain segs ok s v → HangsBy segs ok (lengthAt segs) (leastLengthsOf ok n) v (entry (shortestOf ok n) v)
+  unfolding leastLengthsOf shortestOf
+  shortest-says v h ne c = short-says segs ok posts s inside below few heavy v h ne (D-noted v c)
+
   -- THE TREE WALKED
   -- its posts' entries are segments that are there
   light-there : (v : ℕ) → v < posts → (entry (lightest segs ok posts s) v ≡ noSegment → ⊥) → ok (entry (lightest segs ok posts s) v) ≡ true
@@ -114,10 +119,6 @@ module _ (ok : ℕ → Bool) (m : ℕ) (n : Net) (fits : length (n .segments) �
   module _ (p q : ℕ → ℕ) where
     abbrev pub g : Given
     g = given segs ok posts s inside below few heavy (lightest segs ok posts s) p q
-
-    given-is : givenWith ok n p q ≡ g
-    unfolding givenWith lightestOf shortestOf leastLengthsOf
-    given-is = refl
 
     pub walk-is : walkWith ok n p q ≡ walk g posts s (atStart posts s)
     unfolding walkWith givenWith lightestOf shortestOf leastLengthsOf
@@ -156,7 +157,8 @@ module _ (ok : ℕ → Bool) (m : ℕ) (n : Net) (fits : length (n .segments) �
         depth-few segs ok posts inside n-small few s below (other segs i v) (light-route segs ok posts inside n-small few s below (other segs i v) c (child-hangs v i h e))
 
     -- as many levels as there are posts are enough: nothing of the walk is cut off
-    pub walk-fuel : (k : ℕ) → posts ≤ k → walk g k s (atStart posts s) ≡ walkWith ok n p q
+    pub walk-fuel : (k : ℕ) → posts ≤ k → walk (givenWith ok n p q) k s (atStart posts s) ≡ walkWith ok n p q
+    unfolding givenWith lightestOf shortestOf leastLengthsOf
     walk-fuel k h =
         let e = depth-source segs ok posts inside n-small few s below in
         walk-enough g (depth segs ok posts s) child-deeper child-shallow k posts s (atStart posts s) (omega (arith, e, below)) (omega arith) (omega arith) ∙ sym walk-is

@@ -1,2 +1,5 @@
--- What is promised.
+-- What is promised: the three demands, one file each, and the one table of worked examples.
+pub mod Demand1
+pub mod Demand2
+pub mod Demand3
 pub mod Worked

@@ -1,7 +1,6 @@
 -- The one table of document 01's statements marked (P), with its other worked examples. proofs/Worked proves it as one theorem.
 -- The rows about nets stand beside the definitions of a net, net/specs/Worked.
 use mathlib.Core.Path.{_≡_}
-use Prim.Native.Nat.{ℕ}
 use Rattle.net.specs.Worked.{NetsWorked}
 use Rattle.drawn.specs.Drawn.{drawnOf}
 use Rattle.drawn.specs.Says.{Says, sixteenths, refused, saysOf}
