@@ -1,21 +1,28 @@
 -- Demand 3 over the definitions, of a net that nothing from 1 to 7 refuses, at any ratio for each post. A route is asked only of the post in question:
 -- a post with a route is reached by the third tree (`between-reaches`), by a path within its ratio of every route (`path-limit`), and as long as a shortest
 -- route where p = 0 (`no-slack`). The third tree is within the ratio of any segments that join all posts (`length-limit`), spanning trees among them (`length-limit-tree`).
-use mathlib.Core.Path.{_≡_, ap}
-use mathlib.Core.Bool.{Bool}
+-- The margin of a post is not below zero in the third tree nor in the shortest, and 0 at the source.
+use mathlib.Core.Path.{_≡_, refl, ap}
+use mathlib.Core.Bool.{Bool, false}
 use mathlib.Core.List.{List}
-use Prim.Native.Nat.{ℕ, _+_, _*_, _≤_, _<_}
+use Prim.Native.Nat.{ℕ, _+_, _*_, _≤_, _<_, zero, suc}
 use native.Mathlib.Omega.{arith}
-use native.Mathlib.Nat.{mul-le-mul-left, le-of-mul-le-mul-left, le-trans, zero-add}
+use native.Mathlib.Nat.{mul-le-mul-left, le-of-mul-le-mul-left, le-trans, zero-add, add-mul}
 use lib.ListN.{length}
+use lib.IntN.{pos}
+use lib.Signed.{ltZ}
 use Rattle.net.specs.Net.{Net, lengthAt, Route, Chain, routeLength, setLength, JoinsAll, SpanningTree}
-use Rattle.net.specs.Rules.{NetSound}
-use Rattle.net.specs.Trees.{at, IsLeast, Climb, pathIn, whole}
-use Rattle.net.specs.Building.{leastLengthsOf, walkWith}
+use Rattle.net.specs.Rules.{NetSound, AllJoined}
+use Rattle.net.specs.Trees.{at, IsLeast, Climb, pathIn, whole, entry, pathUp, marginBy}
+use Rattle.net.specs.Building.{leastLengthsOf, walkWith, treeOf, betweenOf, walkOf, marginIn}
 use Rattle.net.specs.declared.Segment.{Segment}
 use Rattle.net.proofs.Climbs.{climb-route}
 use Rattle.net.proofs.Cost.{AllOf}
-use Rattle.net.proofs.Sound.{D-is-least, between-within, walked-limit, lightest-limit}
+use Rattle.net.specs.Words.{noSegment}
+use Rattle.net.specs.declared.Tree.{Tree}
+use Rattle.net.specs.declared.Tree.the-variants.{Lightest, Shortest, Between}
+use Rattle.net.proofs.Margin.{margin-within, margin-zero}
+use Rattle.net.proofs.Sound.{D-is-least, between-within, walked-limit, lightest-limit, shortest-path, lightest-tree, shortest-tree, between-tree, D-source}
 
 -- m is the number of segments that is claimed, and the list has no more
 module _ (ok : ℕ → Bool) (m : ℕ) (n : Net) (fits : length (n .segments) ≤ m) (sound : NetSound ok m n) where
@@ -67,3 +74,45 @@ module _ (ok : ℕ → Bool) (m : ℕ) (n : Net) (fits : length (n .segments) �
       -- "any spanning tree of the net"
       pub length-limit-tree : (U : ℕ → Bool) → SpanningTree segs ok posts s U → p₀ * whole segs posts third ≤ (p₀ + 2 * q₀) * setLength segs U
       length-limit-tree U t = length-limit U (t .spans)
+
+  -- MARGINS at the net's own ratio
+  margin-is : (t : Tree) (v : ℕ) → marginIn ok n t v ≡ marginBy (n .head .p) (n .head .q) (at (leastLengthsOf ok n) v) (pathIn segs posts (treeOf ok n t) v)
+  unfolding marginIn
+  margin-is t v = refl
+
+  -- the margin of a post in the third tree is not below zero
+  pub between-margin : (v : ℕ) → v < posts → Chain segs ok s v → ltZ (marginIn ok n Between v) (pos 0) ≡ false
+  unfolding treeOf betweenOf walkOf leastLengthsOf
+  between-margin v h c =
+      rw (margin-is Between v)
+      (margin-within (n .head .p) (n .head .q) (at (leastLengthsOf ok n) v) (pathIn segs posts (treeOf ok n Between) v)
+      ((between-within ok m n fits sound (λ _. n .head .p) (λ _. n .head .q) v h c) .limit))
+
+  module _ (joined : AllJoined ok n) where
+    -- nor in the shortest tree
+    pub shortest-margin : (v : ℕ) → v < posts → ltZ (marginIn ok n Shortest v) (pos 0) ≡ false
+    unfolding treeOf
+    shortest-margin v h =
+        let D = at (leastLengthsOf ok n) v in
+        rw (margin-is Shortest v, shortest-path ok m n fits sound joined v h)
+        (margin-within (n .head .p) (n .head .q) D D (omega (arith, add-mul (n .head .p) (n .head .q) D)))
+
+    -- "For the source it is 0."
+    free-path : (t : List ℕ) → entry t s ≡ noSegment → (k : ℕ) → pathUp segs posts t k s ≡ 0
+    unfolding pathUp
+    free-path t e zero = refl
+    free-path t e (suc k) = rw e
+
+    source-free : (t : Tree) → entry (treeOf ok n t) s ≡ noSegment
+    unfolding treeOf betweenOf walkOf
+    source-free Lightest = (lightest-tree ok m n fits sound joined) .source-entry
+    source-free Shortest = (shortest-tree ok m n fits sound joined) .source-entry
+    source-free Between = (between-tree ok m n fits sound joined (λ _. n .head .p) (λ _. n .head .q)) .source-entry
+
+    source-path : (t : Tree) → pathIn segs posts (treeOf ok n t) s ≡ 0
+    unfolding pathIn
+    source-path t = free-path (treeOf ok n t) (source-free t) posts
+
+    pub source-margin : (t : Tree) → marginIn ok n t s ≡ pos 0
+    source-margin t =
+        rw (margin-is t s, source-path t, D-source ok m n fits sound) (margin-zero (n .head .p) (n .head .q))

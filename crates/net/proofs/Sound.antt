@@ -22,6 +22,7 @@ use Rattle.net.proofs.Words.{and-i, true-or-false, counted-le}
 use Rattle.net.proofs.Sums.{sum-most}
 use Rattle.net.proofs.Least.{Inside, leads-from, least-small, least-is-least}
 use Rattle.net.proofs.Routes.{leads-back, join, along}
+use Rattle.net.proofs.Hung.{least-zero}
 use Rattle.net.proofs.Used.{hangs-entry}
 use Rattle.net.proofs.Lightest.{length-lightest, light-says, light-hangs, light-in, depth, depth-parent, depth-few, depth-source, exactly-belonging, light-source, light-climbs, lightest-least, lightest-spans, light-route}
 use Rattle.net.proofs.Shortest.{given, owed, length-shortest, shortest-source, short-climb, short-says}
@@ -86,6 +87,10 @@ module _ (ok : ℕ → Bool) (m : ℕ) (n : Net) (fits : length (n .segments) �
   pub D-is-least : (v : ℕ) → Chain segs ok s v → IsLeast segs ok (lengthAt segs) s v (at (leastLengthsOf ok n) v)
   unfolding leastLengthsOf leastLengths
   D-is-least v c = least-is-least segs ok (lengthAt segs) posts inside s below v (D-noted v c)
+
+  pub D-source : at (leastLengthsOf ok n) s ≡ 0
+  unfolding leastLengthsOf leastLengths
+  D-source = least-zero segs ok (lengthAt segs) posts inside few s below
 
   -- "Post v hangs by the lowest-numbered segment from some u with D(u) plus its length equal to D(v)."
   pub shortest-says : (v : ℕ) → v < posts → (v ≡ s → ⊥) → Chain segs ok s v → HangsBy segs ok (lengthAt segs) (leastLengthsOf ok n) v (entry (shortestOf ok n) v)
