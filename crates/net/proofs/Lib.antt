@@ -1,6 +1,7 @@
 -- The laws of a net's definitions, each file above only what it needs; the proofs of the checks in code stand beside them in folders.
 pub mod Words
 pub mod Sums
+pub mod Blend
 pub mod Routes
 pub mod Least
 pub mod Hung

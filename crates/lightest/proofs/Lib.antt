@@ -1,0 +1,12 @@
+-- The laws of `lightest`. A loop that stores: Blend. The order: Merging, Halves, Ordering. Parts by labels: Renaming, Parts. Belonging: Passing, Marked, Presence.
+-- Lists as a net: Segments, Fitting.
+pub mod Merging
+pub mod Halves
+pub mod Ordering
+pub mod Renaming
+pub mod Segments
+pub mod Fitting
+pub mod Parts
+pub mod Passing
+pub mod Marked
+pub mod Presence

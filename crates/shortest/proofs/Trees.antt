@@ -1,0 +1,149 @@
+-- The two trees that are hung by least lengths: what `distances` and `hang` leave is `shortest` where lengths count and all segments are present
+-- (`shortest-is`), and `hungFrom` where each present segment counts for 1 (`hung-from-is`). Rests on `Sides` and `Alike`.
+use mathlib.Core.Path.{_≡_, refl, sym, ap, _∙_}
+use mathlib.Core.Bool.{Bool, true, false}
+use mathlib.Core.List.{List, _++_}
+use Prim.Native.Nat.{ℕ, _<_, _≤_}
+use native.Mathlib.Omega.{arith}
+use lib.ListN.{length, getD, take, drop, replicate, length-replicate, getD-replicate}
+use lib.Seq.{length-take-le, getD-take, take-at}
+use Rattle.net.specs.Words.{noSegment}
+use Rattle.net.specs.Net.{mostSegments, every, segmentsOf, lengthAt}
+use Rattle.net.specs.Trees.{noneYet, at, one, least, hung, fewest, hungFrom, leastLengths, hangingWeight, shortest}
+use Rattle.net.specs.declared.Segment.{Segment}
+use Rattle.net.proofs.Least.{Inside, length-least, least-most}
+use Rattle.net.proofs.Hung.{length-hung}
+use Rattle.shortest.specs.Lists.{flag, note, Ends, Sides, Low}
+use Rattle.shortest.proofs.Lists.{front-at, length-segments, segments-are}
+use Rattle.shortest.proofs.Sides.{sides-inside}
+use Rattle.shortest.proofs.Alike.{Alike, least-alike, hung-alike}
+
+-- HOW LONG THE LISTS ARE, so that the first n entries of a lent list are the tree or the lengths
+pub front-of : (n : ℕ) (g r l : List ℕ) → l ≡ g ++ r → length g ≡ n → take n l ≡ g
+front-of n g r l e k = ap (λ (x : List ℕ). take n x) e ∙ take-at g r n k
+
+module _ (segs : List Segment) (ok : ℕ → Bool) (n s : ℕ) where
+  pub length-lengths : Inside segs ok n → s < n → length (leastLengths segs ok n s) ≡ n
+  unfolding leastLengths
+  length-lengths inside h = length-least segs ok (lengthAt segs) n inside s h
+
+  pub length-shortest : length segs ≤ noSegment → length (shortest segs ok n s) ≡ n
+  unfolding shortest hangingWeight
+  length-shortest few = length-hung segs ok (lengthAt segs) n few (least segs ok (lengthAt segs) n s)
+
+  pub length-hung-from : length segs ≤ noSegment → length (hungFrom segs n s ok) ≡ n
+  unfolding hungFrom
+  length-hung-from few = length-hung segs ok one n few (fewest segs n ok s)
+
+-- NOTES THAT ARE LEAST LENGTHS
+module _ {posts : ℕ} {a b weights : List ℕ} {present : List Bool} (z : Sides posts a b weights present) (s : ℕ) (in-s : s < posts) (l r : List ℕ)
+    (e : l ≡ least (segmentsOf a b weights) (flag present) (note weights) posts s ++ r) where
+  many : length (least (segmentsOf a b weights) (flag present) (note weights) posts s) ≡ posts
+  many = length-least (segmentsOf a b weights) (flag present) (note weights) posts (sides-inside z) s in-s
+
+  -- the first of them
+  pub notes-front : take posts l ≡ least (segmentsOf a b weights) (flag present) (note weights) posts s
+  notes-front = front-of posts (least (segmentsOf a b weights) (flag present) (note weights) posts s) r l e many
+
+  pub notes-at : (v : ℕ) → v < posts → note l v ≡ at (least (segmentsOf a b weights) (flag present) (note weights) posts s) v
+  notes-at = front-at posts (least (segmentsOf a b weights) (flag present) (note weights) posts s) r l noneYet e many
+
+  -- none is above "none yet"
+  pub notes-low : posts ≤ length l → Low posts l
+  notes-low h =
+      record { many = h; most = λ v k. omega (arith, notes-at v k, least-most (segmentsOf a b weights) (flag present) (note weights) posts (sides-inside z) s v k) }
+
+-- THE FIRST m OF A LIST OF ONE VALUE: all segments present, and each counted as 1
+pub length-first : {A : Type 0} (n m : ℕ) (x : A) → m ≤ n → length (take m (replicate n x)) ≡ m
+length-first n m x h = length-take-le m (replicate n x) (omega (arith, length-replicate n x))
+
+pub first-at : {A : Type 0} (n m : ℕ) (x d : A) → m ≤ n → (i : ℕ) → i < m → getD (take m (replicate n x)) i d ≡ x
+first-at n m x d h i k = getD-take m (replicate n x) i d k ∙ getD-replicate n i x d (omega arith)
+
+abbrev pub allThere : ℕ → List Bool
+allThere m = take m (replicate mostSegments true)
+
+abbrev pub ones : ℕ → List ℕ
+ones m = take m (replicate mostSegments 1)
+
+-- ALL SEGMENTS, BY LENGTH
+module _ {posts : ℕ} {a b : List ℕ} (lengths : List ℕ) (z : Ends posts a b every) (same : length lengths ≡ length a) where
+  pub all-sides : Sides posts a b lengths (allThere (length a))
+  all-sides =
+      record {
+        ends = record { b-many = z .b-many; few = z .few; a-in = λ i h o. z .a-in i h refl; b-in = λ i h o. z .b-in i h refl };
+        weights-many = same;
+        present-many = length-first mostSegments (length a) true (z .few);
+      }
+
+  all-alike : (w : ℕ → ℕ) → ((i : ℕ) → w i ≡ lengthAt (segmentsOf a b lengths) i) → Alike (segmentsOf a b lengths) (segmentsOf a b lengths) (flag (allThere (length a))) every (note lengths) w
+  all-alike w f =
+      record {
+        many = refl;
+        a-same = λ i. refl;
+        b-same = λ i. refl;
+        ok-same = λ i h. first-at mostSegments (length a) true false (z .few) i (omega (arith, length-segments a b lengths (z .b-many) same));
+        w-same = λ i h o. sym (f i ∙ (segments-are a b lengths (z .b-many) same) .length-is i);
+      }
+
+  all-least : (s : ℕ) → least (segmentsOf a b lengths) (flag (allThere (length a))) (note lengths) posts s ≡ leastLengths (segmentsOf a b lengths) every posts s
+  unfolding leastLengths
+  all-least s = least-alike (all-alike (lengthAt (segmentsOf a b lengths)) (λ i. refl)) posts s
+
+  all-hung : (s : ℕ)
+      → hung (segmentsOf a b lengths) (flag (allThere (length a))) (note lengths) posts (least (segmentsOf a b lengths) (flag (allThere (length a))) (note lengths) posts s)
+      ≡ shortest (segmentsOf a b lengths) every posts s
+  unfolding shortest hangingWeight
+  all-hung s =
+      let w = lengthAt (segmentsOf a b lengths) in
+      let y = all-alike w (λ i. refl) in
+      hung-alike y posts (least (segmentsOf a b lengths) (flag (allThere (length a))) (note lengths) posts s)
+      ∙ ap (λ (l : List ℕ). hung (segmentsOf a b lengths) every w posts l) (least-alike y posts s)
+
+  -- what the two steps leave: D and the shortest tree
+  pub shortest-is : (s : ℕ) → s < posts → (d₀ t₀ : List ℕ) {d t : List ℕ}
+      → d ≡ least (segmentsOf a b lengths) (flag (allThere (length a))) (note lengths) posts s ++ drop posts d₀
+      → t ≡ hung (segmentsOf a b lengths) (flag (allThere (length a))) (note lengths) posts (take posts d) ++ drop posts t₀
+      → (d ≡ leastLengths (segmentsOf a b lengths) every posts s ++ drop posts d₀) × (t ≡ shortest (segmentsOf a b lengths) every posts s ++ drop posts t₀)
+  shortest-is s in-s d₀ t₀ {d} {t} e f =
+      let front = notes-front all-sides s in-s d (drop posts d₀) e in
+      let tree-is = ap (λ (x : List ℕ). hung (segmentsOf a b lengths) (flag (allThere (length a))) (note lengths) posts x) front ∙ all-hung s in
+      (e ∙ ap (λ (x : List ℕ). x ++ drop posts d₀) (all-least s), f ∙ ap (λ (x : List ℕ). x ++ drop posts t₀) tree-is)
+
+-- THE PRESENT SEGMENTS, EACH COUNTED AS 1
+module _ {posts : ℕ} {a b : List ℕ} (present : List Bool) (z : Ends posts a b (flag present)) (same : length present ≡ length a) where
+  pub one-sides : Sides posts a b (ones (length a)) present
+  one-sides = record { ends = z; weights-many = length-first mostSegments (length a) 1 (z .few); present-many = same }
+
+  one-alike : (lengths : List ℕ) → length lengths ≡ length a → Alike (segmentsOf a b (ones (length a))) (segmentsOf a b lengths) (flag present) (flag present) (note (ones (length a))) one
+  one-alike lengths h =
+      let e = length-first {A = ℕ} mostSegments (length a) 1 (z .few) in
+      let x = segments-are a b (ones (length a)) (z .b-many) e in
+      let y = segments-are a b lengths (z .b-many) h in
+      let n = length-segments a b (ones (length a)) (z .b-many) e in
+      record {
+        many = n ∙ sym (length-segments a b lengths (z .b-many) h);
+        a-same = λ i. x .a-is i ∙ sym (y .a-is i);
+        b-same = λ i. x .b-is i ∙ sym (y .b-is i);
+        ok-same = λ i k. refl;
+        w-same = λ i k o. first-at mostSegments (length a) 1 0 (z .few) i (omega (arith, n));
+      }
+
+  one-hung : (s : ℕ) (lengths : List ℕ) → length lengths ≡ length a
+      → hung (segmentsOf a b (ones (length a))) (flag present) (note (ones (length a))) posts (least (segmentsOf a b (ones (length a))) (flag present) (note (ones (length a))) posts s)
+      ≡ hungFrom (segmentsOf a b lengths) posts s (flag present)
+  unfolding hungFrom fewest
+  one-hung s lengths h =
+      let y = one-alike lengths h in
+      hung-alike y posts (least (segmentsOf a b (ones (length a))) (flag present) (note (ones (length a))) posts s)
+      ∙ ap (λ (l : List ℕ). hung (segmentsOf a b lengths) (flag present) one posts l) (least-alike y posts s)
+
+  -- what the two steps leave: the present segments hung from the source
+  pub hung-from-is : (s : ℕ) → s < posts → (r t₀ : List ℕ) {d t : List ℕ}
+      → d ≡ least (segmentsOf a b (ones (length a))) (flag present) (note (ones (length a))) posts s ++ r
+      → t ≡ hung (segmentsOf a b (ones (length a))) (flag present) (note (ones (length a))) posts (take posts d) ++ drop posts t₀
+      → (lengths : List ℕ) → length lengths ≡ length a → t ≡ hungFrom (segmentsOf a b lengths) posts s (flag present) ++ drop posts t₀
+  hung-from-is s in-s r t₀ {d} {t} e f lengths h =
+      let front = notes-front one-sides s in-s d r e in
+      let tree-is = ap (λ (x : List ℕ). hung (segmentsOf a b (ones (length a))) (flag present) (note (ones (length a))) posts x) front ∙ one-hung s lengths h in
+      f ∙ ap (λ (x : List ℕ). x ++ drop posts t₀) tree-is
