@@ -1,0 +1,65 @@
+//! A program as subject: run once per record, through its standard input and
+//! output.
+
+use std::ffi::OsString;
+use std::io::{self, ErrorKind, Read, Write};
+use std::process::{Command, Stdio};
+
+use reference::program_output;
+
+use crate::cases::Case;
+use crate::run::Difference;
+
+/// The program.
+pub struct Program {
+    path: OsString,
+}
+
+impl Program {
+    /// The program at this path.
+    pub fn new(path: &str) -> Self {
+        Program { path: path.into() }
+    }
+
+    /// What the program prints for this input. That it was ended by a signal
+    /// is an error; its exit status doesn't matter.
+    pub fn output(&self, input: &[u8]) -> io::Result<Vec<u8>> {
+        let mut child = Command::new(&self.path)
+            .stdin(Stdio::piped())
+            .stdout(Stdio::piped())
+            .spawn()?;
+        // An input fits into the pipe, so writing it doesn't wait for the
+        // program, which needn't read all of it.
+        let mut stdin = child.stdin.take().expect("piped");
+        let written = stdin.write_all(input);
+        drop(stdin);
+        let mut output = Vec::new();
+        let mut stdout = child.stdout.take().expect("piped");
+        let read = stdout.read_to_end(&mut output);
+        let status = child.wait()?;
+        match written {
+            Err(error) if error.kind() != ErrorKind::BrokenPipe => return Err(error),
+            _ => {}
+        }
+        read?;
+        if status.code().is_none() {
+            return Err(io::Error::other(format!("ended by {status}")));
+        }
+        Ok(output)
+    }
+
+    /// Compares the program's answer with the reference's.
+    pub fn compare(&self, case: &Case) -> Result<(), Difference> {
+        let expected = program_output(&case.record);
+        let got = match self.output(&case.record) {
+            Ok(output) => output,
+            Err(error) => return Err(Difference::new("program", expected, error)),
+        };
+        if got == expected.as_bytes() {
+            Ok(())
+        } else {
+            let got = String::from_utf8_lossy(&got);
+            Err(Difference::new("program", expected, got))
+        }
+    }
+}

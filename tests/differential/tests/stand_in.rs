@@ -1,0 +1,96 @@
+//! The comparison itself: it passes what is right and catches every slip.
+
+use std::process::{Command, Output};
+
+fn differential(way: &str, arguments: &[&str]) -> Output {
+    Command::new(env!("CARGO_BIN_EXE_differential"))
+        .args(arguments)
+        .env("STAND_IN", way)
+        .output()
+        .expect("the comparison runs")
+}
+
+fn compared(way: &str, cases: &str) -> (Option<i32>, String) {
+    let stand_in = env!("CARGO_BIN_EXE_stand_in");
+    let arguments = [stand_in, "--cases", cases, "--seed", "5", "--threads", "1"];
+    let output = differential(way, &arguments);
+    let text = String::from_utf8(output.stdout).expect("text");
+    (output.status.code(), text)
+}
+
+#[test]
+fn the_reference_equals_itself() {
+    let (status, text) = compared("", "600");
+    assert_eq!(status, Some(0), "{text}");
+    assert!(text.contains("seeds: 8003 (fixed), 5 (clock"), "{text}");
+    assert!(text.contains("seed 8003 (fixed): 300 equal"), "{text}");
+    assert!(text.contains("seed 5 (clock): 300 equal"), "{text}");
+    assert!(text.contains(": all equal"), "{text}");
+    for number in [1, 2, 3, 4, 5, 6, 7, 9, 10, 11, 12] {
+        assert!(text.contains(&format!(" {number}: ")), "{number}: {text}");
+    }
+}
+
+#[test]
+fn every_slip_is_caught() {
+    for slip in [
+        "NotesAsPaths",
+        "NoTryBack",
+        "ScaledInnerTest",
+        "LaidAtEquality",
+        "Silent",
+        "Cut",
+        "Crash",
+    ] {
+        let (status, text) = compared(slip, "0");
+        assert_eq!(status, Some(1), "{slip}: {text}");
+        assert!(
+            text.contains("DIFFERENCE (program) in fixed input"),
+            "{slip}"
+        );
+    }
+}
+
+#[test]
+fn the_record_is_printed_in_decimal() {
+    let (status, text) = compared("LaidAtEquality", "0");
+    assert_eq!(status, Some(1));
+    // The first fixed input that shows it is net A with ratio 0/1.
+    let lines: Vec<&str> = text.lines().collect();
+    let at = lines
+        .iter()
+        .position(|line| line.starts_with("DIFFERENCE"))
+        .expect("reported");
+    assert_eq!(lines[at + 1], "record of 20 bytes, in decimal:");
+    assert_eq!(lines[at + 2], "4 0 0 1 5 0 1 4 1 2 4 2 3 4 0 3 5 0 2 6");
+}
+
+#[test]
+fn what_cannot_be_run_is_no_difference() {
+    let nowhere = differential("", &["no-such-program-here"]);
+    assert_eq!(nowhere.status.code(), Some(2));
+    assert_eq!(differential("", &[]).status.code(), Some(2));
+    assert_eq!(differential("", &["a", "b"]).status.code(), Some(2));
+    assert_eq!(differential("", &["a", "--cases"]).status.code(), Some(2));
+}
+
+#[cfg(feature = "stand-in-library")]
+#[test]
+fn the_library_made_from_the_reference_equals_it() {
+    let arguments = [
+        "--library",
+        "--cases",
+        "2000",
+        "--seed",
+        "5",
+        "--threads",
+        "1",
+    ];
+    let output = differential("", &arguments);
+    let text = String::from_utf8_lossy(&output.stdout);
+    assert_eq!(output.status.code(), Some(0), "{text}");
+    for slip in ["Beyond", "Touched", "Wrong"] {
+        let output = differential(slip, &arguments);
+        assert_eq!(output.status.code(), Some(1), "{slip}");
+    }
+}

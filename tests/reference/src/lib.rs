@@ -1,0 +1,40 @@
+//! An independent implementation of document 01, written from its text alone.
+//!
+//! It exists to be compared with the proved library and its program, so
+//! wherever document 01 leaves a choice of method it takes a plain one: Prim's
+//! method for the lightest tree, Bellman and Ford's for the least lengths, the
+//! walk by recursion straight from the text, and exact whole-number arithmetic
+//! for drawn lengths. A second method stands beside the first for the lightest
+//! tree, the least lengths and drawn lengths, so that the reference can be
+//! compared with itself too.
+//!
+//! * [`net`]: nets, the numbers that bound them, refusals 1 to 7 and 9;
+//! * [`record`]: reading and writing records, refusals 8, 10 to 12 and 18;
+//! * [`drawn`]: drawn runs, refusals 13 to 17;
+//! * [`trees`]: the lightest and the shortest tree, and sums over any tree;
+//! * [`between`]: the walk that makes the third tree;
+//! * [`building`]: the building call and the margin, refusals 8 and 19;
+//! * [`bounds`]: what must hold of the three trees of every net;
+//! * [`program`]: the exact text that the program prints;
+//! * [`worked`]: the nets that document 01 works by hand;
+//! * [`slips`]: the slips that document 01 names, to test the tests with.
+
+#![forbid(unsafe_code)]
+
+pub mod between;
+pub mod bounds;
+pub mod building;
+pub mod drawn;
+pub mod net;
+pub mod program;
+pub mod record;
+pub mod slips;
+pub mod trees;
+pub mod worked;
+
+pub use bounds::{bounds_hold, broken_bound};
+pub use building::{build, margin, three_trees, Built, Measure, Tree, Trees};
+pub use drawn::{drawn_length, Run};
+pub use net::{Net, Refusal, Segment};
+pub use program::program_output;
+pub use record::{read, read_into, write, write_into};
