@@ -1,0 +1,22 @@
+-- `note_at` meets its contract: inside the list the default does not matter, and outside it stands. Assumes nothing.
+use mathlib.Core.Path.{sym}
+use lib.ListN.{List·getD-eq-default}
+use Rattle.between.proofs.Lists.{getD-any}
+use borrow.Author.Needs.{needs}
+use Rattle.between.proofs.note_at.Statement.{statement}
+use Rattle.between.proofs.note_at.Tie as tie
+
+mul-result : tie.Need-mul-result
+mul-result c = search needs
+
+shared-slice-read-result : tie.Need-shared-slice-read-result
+shared-slice-read-result c = search needs
+
+returns : tie.Need-returns
+returns c = getD-any (c .before .before .args .notes .now) (c .before .before .args .v) _ _ (c .before .if1 .taken)
+
+returns-2 : tie.Need-returns-2
+returns-2 c = sym (List·getD-eq-default (c .before .args .notes .now) _ (c .if1 .left))
+
+pub note-at-spec : {M : Type 1} → statement M
+note-at-spec = tie.close (tie.spec mul-result shared-slice-read-result returns returns-2)
