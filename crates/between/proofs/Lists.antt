@@ -1,24 +1,17 @@
 -- What a read or a store inside and outside a list comes to, and that three lists side by side read as the segments made of them (`lists-of`).
 -- General laws of lists and of tests; every other file of the crate's laws stands on these.
-use mathlib.Core.Path.{_≡_, refl, sym, ap, _∙_}
+use mathlib.Core.Path.{_≡_, refl, sym, _∙_}
 use mathlib.Core.Bool.{Bool, true, false, cond}
-use mathlib.Core.List.{List, [], _∷_}
-use Prim.Native.Nat.{ℕ, zero, suc, _+_, _-_, _*_, _≤_, _<_}
-use native.Mathlib.Nat.{not-suc-le-zero, le-of-suc-le-suc, mul-le-mul}
+use mathlib.Core.List.{List}
+use Prim.Native.Nat.{ℕ, _+_, _-_, _*_, _≤_, _<_}
+use native.Mathlib.Nat.{mul-le-mul}
 use native.Mathlib.Omega.{arith}
 use lib.Dec.{eqb, ltb}
-use lib.ListN.{length, getD}
 use borrow.Author.Tests.{lt-ltb, le-ltb, ltb-true, ltb-false, eq-eqb, ne-eqb}
-use Rattle.net.specs.Net.{segmentsOf, segmentAt, mostRatio}
+use Rattle.net.specs.Net.{segmentsOf, mostRatio}
 use Rattle.net.specs.Trees.{noneYet}
-use Rattle.net.specs.declared.Segment.{Segment}
+use Rattle.net.proofs.Segments.{length-segments, segments-are}
 use Rattle.between.specs.Given.{Level, Lists}
-
--- an element that is there does not depend on the default
-pub getD-any : (l : List ℕ) (i x y : ℕ) → i < length l → getD l i x ≡ getD l i y
-getD-any [] i x y h = absurd (not-suc-le-zero h)
-getD-any (a ∷ l) zero x y h = refl
-getD-any (a ∷ l) (suc i) x y h = getD-any l i x y (le-of-suc-le-suc h)
 
 -- a sum compared by a difference
 pub less-by : (x y z : ℕ) → x < z → ltb y (z - x) ≡ ltb (x + y) z
@@ -52,33 +45,8 @@ cond-then a b x v r ea ex eb er h = (er ∙ eb) ∙ cond-same a v b a (sym ea �
 pub cond-not : (a b x v : ℕ) {s : ℕ} → s ≡ a → x ≡ s → (x ≡ v → ⊥) → x ≡ cond (eqb a v) b a
 cond-not a b x v ea ex h = (ex ∙ ea) ∙ cond-else a v b a (λ e. h (ex ∙ ea ∙ e))
 
--- the segment made of three lists at i
-sideBySide : List ℕ → List ℕ → List ℕ → ℕ → Segment
-sideBySide a b lengths i = record { a = getD a i 0; b = getD b i 0; length = getD lengths i 0 }
-
-segment-at : (a b lengths : List ℕ) → length b ≡ length a → length lengths ≡ length a → (i : ℕ) → segmentAt (segmentsOf a b lengths) i ≡ sideBySide a b lengths i
-unfolding sideBySide
-segment-at [] [] [] e f i = refl
-segment-at [] [] (l ∷ ls) e f i = absurd (omega arith)
-segment-at [] (y ∷ ys) ls e f i = absurd (omega arith)
-segment-at (x ∷ xs) [] ls e f i = absurd (omega arith)
-segment-at (x ∷ xs) (y ∷ ys) [] e f i = absurd (omega arith)
-segment-at (x ∷ xs) (y ∷ ys) (l ∷ ls) e f zero = refl
-segment-at (x ∷ xs) (y ∷ ys) (l ∷ ls) e f (suc i) = segment-at xs ys ls (omega arith) (omega arith) i
-
-pub length-segments : (a b lengths : List ℕ) → length b ≡ length a → length lengths ≡ length a → length (segmentsOf a b lengths) ≡ length a
-length-segments [] ys ls e f = refl
-length-segments (x ∷ xs) [] ls e f = absurd (omega arith)
-length-segments (x ∷ xs) (y ∷ ys) [] e f = absurd (omega arith)
-length-segments (x ∷ xs) (y ∷ ys) (l ∷ ls) e f = ap suc (length-segments xs ys ls (omega arith) (omega arith))
-
 -- THREE LISTS READ AS THE SEGMENTS MADE OF THEM
 pub lists-of : {a b lengths : List ℕ} → Level a b lengths → Lists (segmentsOf a b lengths) a b lengths
-unfolding sideBySide
 lists-of {a} {b} {lengths} h =
-    record {
-      count = length-segments a b lengths (h .b-level) (h .lengths-level);
-      a-is = λ i. ap (λ (s : Segment). s .a) (segment-at a b lengths (h .b-level) (h .lengths-level) i);
-      b-is = λ i. ap (λ (s : Segment). s .b) (segment-at a b lengths (h .b-level) (h .lengths-level) i);
-      lengths-is = λ i. ap (λ (s : Segment). s .length) (segment-at a b lengths (h .b-level) (h .lengths-level) i);
-    }
+    let s = segments-are a b lengths (h .b-level) (h .lengths-level) in
+    record { count = length-segments a b lengths (h .b-level) (h .lengths-level); a-is = s .a-is; b-is = s .b-is; lengths-is = s .length-is }

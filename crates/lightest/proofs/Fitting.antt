@@ -18,7 +18,7 @@ use Rattle.net.proofs.Belongs.{says-before}
 use Rattle.lightest.specs.Order.{lengthIn, orderOf, InOrder}
 use Rattle.lightest.specs.Marks.{there, Ends, Fit}
 use Rattle.lightest.proofs.Ordering.{in-order-same, in-order-at, order-in-order}
-use Rattle.lightest.proofs.Segments.{length-segments, segments-at}
+use Rattle.net.proofs.Segments.{length-segments, segments-at}
 
 -- the number of posts under another name
 pub ends-of : {k n : ℕ} {a b : List ℕ} {present : List Bool} → k ≡ n → Ends n a b present → Ends k a b present
@@ -45,14 +45,14 @@ module _ {n : ℕ} {a b lengths : List ℕ} {present : List Bool} (fit : Fit n a
 
   -- as many segments as lengths
   pub fit-length : length segs ≡ length lengths
-  fit-length = length-segments a b lengths (fit .one-a) one-b
+  fit-length = length-segments a b lengths (one-b ∙ sym (fit .one-a)) (sym (fit .one-a)) ∙ fit .one-a
 
   -- the ends of segment i
   pub end-a : (i : ℕ) → (segmentAt segs i) .a ≡ getD a i 0
-  end-a i = ap (λ s. s .a) (segments-at a b lengths i (fit .one-a) one-b)
+  end-a i = ap (λ s. s .a) (segments-at a b lengths i (one-b ∙ sym (fit .one-a)) (sym (fit .one-a)))
 
   pub end-b : (i : ℕ) → (segmentAt segs i) .b ≡ getD b i 0
-  end-b i = ap (λ s. s .b) (segments-at a b lengths i (fit .one-a) one-b)
+  end-b i = ap (λ s. s .b) (segments-at a b lengths i (one-b ∙ sym (fit .one-a)) (sym (fit .one-a)))
 
   -- the ends of the segments that are there are posts
   pub fit-inside : Inside segs (there present) n
@@ -62,7 +62,7 @@ module _ {n : ℕ} {a b lengths : List ℕ} {present : List Bool} (fit : Fit n a
   pub fit-order : {numbers : List ℕ} → InOrder (lengthIn lengths) (length lengths) numbers → InOrder (lengthAt segs) (length segs) numbers
   unfolding lengthIn
   fit-order o =
-      rw fit-length (in-order-same (lengthIn lengths) (lengthAt segs) (λ i. sym (ap (λ s. s .length) (segments-at a b lengths i (fit .one-a) one-b))) o)
+      rw fit-length (in-order-same (lengthIn lengths) (lengthAt segs) (λ i. sym (ap (λ s. s .length) (segments-at a b lengths i (one-b ∙ sym (fit .one-a)) (sym (fit .one-a))))) o)
 
   -- few enough posts and segments for the laws of `net`
   pub fit-small : n ≤ noneYet
@@ -95,10 +95,10 @@ inside-fit {n} {a} {b} {lengths} {present} hn hm ea eb ep inside =
       ends = record {
         one-b = eb ∙ sym ea;
         one-present = ep ∙ sym ea;
-        a-in = λ i o. rw (← ap (λ s. s .a) (segments-at a b lengths i ea eb)) (inside .a-in i (below i o) o);
-        b-in = λ i o. rw (← ap (λ s. s .b) (segments-at a b lengths i ea eb)) (inside .b-in i (below i o) o);
+        a-in = λ i o. rw (← ap (λ s. s .a) (segments-at a b lengths i (eb ∙ sym ea) (sym ea))) (inside .a-in i (below i o) o);
+        b-in = λ i o. rw (← ap (λ s. s .b) (segments-at a b lengths i (eb ∙ sym ea) (sym ea))) (inside .b-in i (below i o) o);
       };
     }
   where
     below : (i : ℕ) → there present i ≡ true → i < length (segmentsOf a b lengths)
-    below i o = let h = there-below present i o in omega (arith, length-segments a b lengths ea eb)
+    below i o = let h = there-below present i o in omega (arith, length-segments a b lengths (eb ∙ sym ea) (sym ea))

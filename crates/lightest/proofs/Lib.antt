@@ -4,7 +4,6 @@ pub mod Merging
 pub mod Halves
 pub mod Ordering
 pub mod Renaming
-pub mod Segments
 pub mod Fitting
 pub mod Parts
 pub mod Passing

@@ -14,7 +14,7 @@ use Rattle.net.specs.declared.Segment.{Segment}
 use Rattle.net.proofs.Words.{and-i, and-left, and-right, or-left, or-right, or-cases, clash}
 use Rattle.net.proofs.Routes.{stay, join, along, replaced, back, ends-lead, either, Through, avoids, meets, widen, through}
 use Rattle.lightest.specs.Parts.{share, Apart, sharesAfter, JoinedParts}
-use Rattle.lightest.proofs.Segments.{leads-ends}
+use Rattle.net.proofs.Routes.{leads-ends}
 
 -- the labels of n posts say the parts into which the segments of S join them
 pub record Parts (segs : List Segment) (S : ℕ → Bool) (n : ℕ) (labels : List ℕ) : Type 0 where

@@ -1,15 +1,15 @@
 -- Which segments are there matters only below the segment count: present tests that agree there have the same belonging segments (`belonging-same`).
 -- So marks over lists with every segment present are `belonging` over `every` (`belonging-every`). Rests on `net`'s Belongs and on Fitting.
 use mathlib.Core.Path.{_≡_, sym, _∙_}
-use mathlib.Core.Bool.{Bool, true, false, _&&_}
+use mathlib.Core.Bool.{Bool, true, false}
 use mathlib.Core.List.{List}
 use Prim.Native.Nat.{ℕ, _<_, _≤_}
 use native.Mathlib.Omega.{arith}
 use lib.ListN.{length}
 use lib.Seq.{ext-getD}
 use Rattle.net.specs.Words.{noSegment}
-use Rattle.net.specs.Net.{segmentsOf, segmentAt, before, every}
-use Rattle.net.specs.Trees.{noneYet, earlier, belongs, Belongs, belonging}
+use Rattle.net.specs.Net.{segmentsOf, before, every}
+use Rattle.net.specs.Trees.{noneYet, belongs, belonging}
 use Rattle.net.specs.declared.Segment.{Segment}
 use Rattle.net.proofs.Words.{and-i, and-left, and-right, length-tab, tab-at}
 use Rattle.net.proofs.Routes.{widen}

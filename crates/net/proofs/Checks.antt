@@ -4,12 +4,12 @@
 use mathlib.Core.Path.{_≡_, refl, sym, ap, _∙_}
 use mathlib.Core.Bool.{Bool, true, false, not, _&&_}
 use mathlib.Core.Logic.{_⊎_, inl, inr, _↔_}
-use mathlib.Core.List.{List, [], _∷_}
+use mathlib.Core.List.{List}
 use mathlib.Core.Option.{Option, none, some}
-use Prim.Native.Nat.{ℕ, zero, suc, _+_, _≤_, _<_, min}
+use Prim.Native.Nat.{ℕ, _+_, _≤_, _<_}
 use native.Mathlib.Omega.{arith}
 use native.Mathlib.Decide.{decLt}
-use lib.ListN.{length, getD}
+use lib.ListN.{length}
 use lib.Dec.{eqb, leb, ltb}
 use borrow.Author.Tests.{eqb-true, eqb-false, leb-true, leb-false, ltb-true, ltb-false}
 use Rattle.net.specs.Net.{Net, segmentsOf, segmentAt, every, mostSegments, mostPosts, mostRatio}
@@ -87,26 +87,6 @@ refused-by f = rw (← first-only f)
 
 pub sound-by : {ls : List Line} → FirstOf ls none → Sound ≡ checkedOf (first ls)
 sound-by f = rw (← first-only f)
-
--- THREE LISTS SIDE BY SIDE have as many segments as the shortest has places
-pub segments-count : (xs ys ls : List ℕ) → length (segmentsOf xs ys ls) ≡ min (min (length xs) (length ys)) (length ls)
-segments-count (x ∷ xs) (y ∷ ys) (l ∷ ls) = omega (arith, segments-count xs ys ls)
-segments-count (x ∷ xs) (y ∷ ys) [] = omega arith
-segments-count (x ∷ xs) [] ls = omega arith
-segments-count [] ys ls = omega arith
-
--- and segment i has what stands at i in each
-pub segment-fields : (xs ys ls : List ℕ) (i : ℕ) → i < length xs → i < length ys → i < length ls
-    → record { a = getD xs i 0; b = getD ys i 0; length = getD ls i 0 } ≡ segmentAt (segmentsOf xs ys ls) i
-segment-fields (x ∷ xs) (y ∷ ys) (l ∷ ls) zero p q r = refl
-segment-fields (x ∷ xs) (y ∷ ys) (l ∷ ls) (suc i) p q r = segment-fields xs ys ls i (omega arith) (omega arith) (omega arith)
-segment-fields (x ∷ xs) (y ∷ ys) [] i p q r = absurd (omega arith)
-segment-fields (x ∷ xs) [] ls i p q r = absurd (omega arith)
-segment-fields [] ys ls i p q r = absurd (omega arith)
-
--- a number below the count is a place in each
-pub in-each : (xs ys ls : List ℕ) (i : ℕ) → i < length (segmentsOf xs ys ls) → (i < length xs) × (i < length ys) × (i < length ls)
-in-each xs ys ls i h = let e = segments-count xs ys ls in (omega arith, omega arith, omega arith)
 
 -- WHAT A CALLED CHECK SAID
 pub said-refused : {ls : List Line} {v : Checked} {r : Refusal} → v ≡ checkedOf (first ls) → v ≡ Refused r → FirstOf ls (some r)

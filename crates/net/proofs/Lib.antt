@@ -2,6 +2,7 @@
 pub mod Words
 pub mod Sums
 pub mod Blend
+pub mod Segments
 pub mod Routes
 pub mod Least
 pub mod Hung

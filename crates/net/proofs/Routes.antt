@@ -8,7 +8,7 @@ use native.Mathlib.Nat.{suc-mul}
 use native.Mathlib.Decide.{ℕ-discrete}
 use lib.ListN.{length, getD, set}
 use lib.Seq.{getD-set-other}
-use mathlib.Core.Logic.{inl, inr}
+use mathlib.Core.Logic.{_⊎_, inl, inr}
 use lib.Dec.{eqb}
 use borrow.Author.Tests.{eqb-true, eq-eqb, ne-eqb}
 use Rattle.net.proofs.Words.{and-i, and-left, and-right, or-right, not-true, so-false, true-or-false, clash}
@@ -164,6 +164,15 @@ module _ (segs : List Segment) where
   ends-lead i h =
       let e = eq-eqb ((segmentAt segs i) .a) ((segmentAt segs i) .a) refl in
       record { is-segment = h; ends = rw e; across = rw e }
+
+  -- a segment leads from one of its ends to the other
+  pub leads-ends : {i u v : ℕ} → Leads segs i u v
+      → ((u ≡ (segmentAt segs i) .a) × (v ≡ (segmentAt segs i) .b)) ⊎ ((u ≡ (segmentAt segs i) .b) × (v ≡ (segmentAt segs i) .a))
+  leads-ends {i} {u} {v} l = go ((segmentAt segs i) .a) ((segmentAt segs i) .b) (eqb ((segmentAt segs i) .a) u) refl (l .ends) (l .across)
+    where
+      go : (a b : ℕ) (t : Bool) → eqb a u ≡ t → t || eqb b u ≡ true → cond t b a ≡ v → ((u ≡ a) × (v ≡ b)) ⊎ ((u ≡ b) × (v ≡ a))
+      go a b true p q r = inl (sym (eqb-true a u p), sym r)
+      go a b false p q r = inr (sym (eqb-true b u q), sym r)
 
   -- a segment that leads from x to y leads from z to w only where z, w are x, y or y, x
   pub either : {i x y z w : ℕ} {ok : ℕ → Bool} → Leads segs i x y → Chain segs ok x y → Leads segs i z w → Chain segs ok z w

@@ -1,15 +1,15 @@
--- Laws of lists: a list of segments made of three lists, a value behind a list's end, a list after a store, and a list whose first part is made anew.
+-- Laws of lists: a value behind a list's end, a list after a store, and a list whose first part is made anew.
 -- Relies on nothing of ours but `net`'s words.
-use mathlib.Core.Path.{_≡_, refl, sym, ap, _∙_}
-use mathlib.Core.List.{List, [], _∷_, _++_}
+use mathlib.Core.Path.{_≡_, sym, ap, _∙_}
+use mathlib.Core.List.{List, _++_}
 use mathlib.Core.Logic.{_⊎_, inl, inr, ⊎-elim}
-use Prim.Native.Nat.{ℕ, zero, suc, _+_, _-_, _<_, _≤_}
+use Prim.Native.Nat.{ℕ, _+_, _-_, _<_, _≤_}
 use native.Mathlib.Omega.{arith}
 use native.Mathlib.Nat.{eq-or-lt-of-le}
 use native.Mathlib.Decide.{ℕ-discrete, decLt}
 use lib.ListN.{length, getD, set, take, drop, length-append, length-take, length-drop, List·getD-append, List·getD-eq-default}
 use lib.Seq.{getD-set-same, getD-set-other, ext-getD, getD-take, getD-drop, getD-append-add}
-use Rattle.net.specs.Net.{segmentsOf, segmentAt}
+use Rattle.net.proofs.Segments.{getD-any}
 
 -- a number is another or not; below another or not; the last below i + 1 or an earlier one
 either : {A : Type 0} → Dec A → A ⊎ (A → ⊥)
@@ -25,15 +25,9 @@ below? x y = ⊎-elim inl (λ n. inr (omega arith)) (either (decLt x y))
 pub last? : (j i : ℕ) → j < i + 1 → (j ≡ i) ⊎ (j < i)
 last? j i h = eq-or-lt-of-le (omega arith)
 
--- within a list, what stands behind its end does not matter
-pub within : {A : Type 0} (l : List A) (i : ℕ) (d e : A) → i < length l → getD l i d ≡ getD l i e
-within [] i d e h = absurd (omega arith)
-within (x ∷ l) zero d e h = refl
-within (x ∷ l) (suc i) d e h = within l i d e (omega arith)
-
 -- what the first n of a list say
 pub taken-at : (n : ℕ) (l : List ℕ) (v d : ℕ) → v < n → n ≤ length l → getD l v 0 ≡ getD (take n l) v d
-taken-at n l v d h k = within l v 0 d (omega arith) ∙ sym (getD-take n l v d h)
+taken-at n l v d h k = getD-any l v 0 d (omega arith) ∙ sym (getD-take n l v d h)
 
 pub taken-out : (n : ℕ) (l : List ℕ) (v d : ℕ) → n ≤ v → d ≡ getD (take n l) v d
 taken-out n l v d h = sym (List·getD-eq-default (take n l) d (omega (arith, length-take n l)))
@@ -57,39 +51,4 @@ front-is n g x y e k h f r =
 
 -- and what its first entries are
 pub front-at : (n : ℕ) (g r l : List ℕ) (d : ℕ) → l ≡ g ++ r → length g ≡ n → (v : ℕ) → v < n → getD l v 0 ≡ getD g v d
-front-at n g r l d e k v h = ap (λ (x : List ℕ). getD x v 0) e ∙ List·getD-append g r 0 v (omega arith) ∙ within g v 0 d (omega arith)
-
--- A LIST OF SEGMENTS made of three lists that are equally long
-pub length-segments : (a b l : List ℕ) → length b ≡ length a → length l ≡ length a → length (segmentsOf a b l) ≡ length a
-length-segments [] b l p q = refl
-length-segments (x ∷ a) [] l p q = absurd (omega arith)
-length-segments (x ∷ a) (y ∷ b) [] p q = absurd (omega arith)
-length-segments (x ∷ a) (y ∷ b) (z ∷ l) p q = ap suc (length-segments a b l (omega arith) (omega arith))
-
--- what the segment at i is: its two ends and its length, all 0 behind the end
-pub record Are (a b l : List ℕ) : Type 0 where
-  pub a-is : (i : ℕ) → (segmentAt (segmentsOf a b l) i) .a ≡ getD a i 0
-  pub b-is : (i : ℕ) → (segmentAt (segmentsOf a b l) i) .b ≡ getD b i 0
-  pub length-is : (i : ℕ) → (segmentAt (segmentsOf a b l) i) .length ≡ getD l i 0
-
-pub segments-are : (a b l : List ℕ) → length b ≡ length a → length l ≡ length a → Are a b l
-segments-are [] [] [] p q = record { a-is = λ i. refl; b-is = λ i. refl; length-is = λ i. refl }
-segments-are [] (y ∷ b) l p q = absurd (omega arith)
-segments-are [] [] (z ∷ l) p q = absurd (omega arith)
-segments-are (x ∷ a) [] l p q = absurd (omega arith)
-segments-are (x ∷ a) (y ∷ b) [] p q = absurd (omega arith)
-segments-are (x ∷ a) (y ∷ b) (z ∷ l) p q =
-    let r = segments-are a b l (omega arith) (omega arith) in
-    record { a-is = λ i. go-a r i; b-is = λ i. go-b r i; length-is = λ i. go-l r i }
-  where
-    go-a : Are a b l → (i : ℕ) → (segmentAt (segmentsOf (x ∷ a) (y ∷ b) (z ∷ l)) i) .a ≡ getD (x ∷ a) i 0
-    go-a r zero = refl
-    go-a r (suc i) = r .a-is i
-
-    go-b : Are a b l → (i : ℕ) → (segmentAt (segmentsOf (x ∷ a) (y ∷ b) (z ∷ l)) i) .b ≡ getD (y ∷ b) i 0
-    go-b r zero = refl
-    go-b r (suc i) = r .b-is i
-
-    go-l : Are a b l → (i : ℕ) → (segmentAt (segmentsOf (x ∷ a) (y ∷ b) (z ∷ l)) i) .length ≡ getD (z ∷ l) i 0
-    go-l r zero = refl
-    go-l r (suc i) = r .length-is i
+front-at n g r l d e k v h = ap (λ (x : List ℕ). getD x v 0) e ∙ List·getD-append g r 0 v (omega arith) ∙ getD-any g v 0 d (omega arith)

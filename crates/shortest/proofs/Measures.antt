@@ -15,7 +15,7 @@ use Rattle.net.specs.Net.{longest, segmentsOf, segmentAt, lengthAt}
 use Rattle.net.specs.Trees.{entry, hangs, parent, pathUp, pathIn, radius, whole}
 use Rattle.net.specs.declared.Segment.{Segment}
 use Rattle.shortest.specs.Lists.{Short}
-use Rattle.shortest.proofs.Lists.{segments-are}
+use Rattle.net.proofs.Segments.{segments-are}
 
 -- no length is above 1,048,575, behind the end either
 pub length-most : (l : List ℕ) → Short l → (i : ℕ) → getD l i 0 ≤ longest

@@ -14,7 +14,8 @@ use Rattle.net.proofs.Routes.{marked, marked-drop}
 use Rattle.net.proofs.Least.{settled-is, length-least, least-le, least-is}
 use Rattle.shortest.specs.Lists.{flag, note, Sides}
 use Rattle.shortest.specs.Notes.{Cleared, Relaxed, Nearest}
-use Rattle.shortest.proofs.Lists.{within, front-is}
+use Rattle.net.proofs.Segments.{getD-any}
+use Rattle.shortest.proofs.Lists.{front-is}
 use Rattle.shortest.proofs.Settling.{State, begin, settle, notes-settled, final-next}
 use Rattle.shortest.proofs.Sides.{sides-inside, relaxes, joins-in}
 
@@ -97,10 +98,10 @@ module _ {a b weights : List ℕ} {present : List Bool} {posts s : ℕ} where
       let over : (y : ℕ) → y < posts → flag S y ≡ false → noneYet ≤ note l y =
       λ y i t. ⊎-elim (λ w. omega (arith, R .next .1 .lower y i t, w .1)) (λ w. absurd (omega (arith, w .0))) (R .next .1 .which) in
       let many = length-least segs (flag present) (note weights) posts (sides-inside z) s in-s in
-      let done = notes-settled (sides-inside z) in-s (R .state) over l (λ v i. within l v noneYet 0 (omega (arith, R .same))) in
+      let done = notes-settled (sides-inside z) in-s (R .state) over l (λ v i. getD-any l v noneYet 0 (omega (arith, R .same))) in
       front-is posts (least segs (flag present) (note weights) posts s) l d₀ (R .same ∙ k) many long
       (λ v i.
-      within l v 0 noneYet (omega (arith, R .same))
+      getD-any l v 0 noneYet (omega (arith, R .same))
       ∙ settled-is segs (flag present) (note weights) posts (sides-inside z) s in-s l done v i
-      ∙ within (least segs (flag present) (note weights) posts s) v noneYet 0 (omega (arith, many)))
+      ∙ getD-any (least segs (flag present) (note weights) posts s) v noneYet 0 (omega (arith, many)))
       (λ v o. R .rest v o ∙ c .rest v o)

@@ -13,7 +13,7 @@ use Rattle.net.proofs.Words.{or-right}
 use Rattle.net.proofs.Least.{Inside}
 use Rattle.shortest.specs.Lists.{flag, note, Ends, Sides}
 use Rattle.shortest.specs.Notes.{Joins, Relaxed}
-use Rattle.shortest.proofs.Lists.{length-segments, Are, segments-are}
+use Rattle.net.proofs.Segments.{length-segments, Are, segments-are}
 use Rattle.shortest.proofs.Settling.{Relaxes}
 
 -- `Joins` is what `Leads` tests

@@ -1,7 +1,7 @@
 -- `entry_at` meets its contract: inside the list the default does not matter, and outside it stands. Assumes nothing.
 use mathlib.Core.Path.{sym}
 use lib.ListN.{List·getD-eq-default}
-use Rattle.between.proofs.Lists.{getD-any}
+use Rattle.net.proofs.Segments.{getD-any}
 use borrow.Author.Needs.{needs}
 use Rattle.between.proofs.entry_at.Statement.{statement}
 use Rattle.between.proofs.entry_at.Tie as tie

@@ -1,7 +1,8 @@
 use borrow.Author.Needs.{needs}
 use Prim.Native.Nat.{_-_}
 use Rattle.net.specs.Net.{segmentsOf}
-use Rattle.net.proofs.Checks.{in-each, SoundBelow, sound-none, sound-more, sound-all, refused-at}
+use Rattle.net.proofs.Segments.{in-each}
+use Rattle.net.proofs.Checks.{SoundBelow, sound-none, sound-more, sound-all, refused-at}
 use native.Mathlib.Omega.{arith}
 use Rattle.net.proofs.check_segments.Statement.{statement}
 use Rattle.net.proofs.check_segments.Tie as tie

@@ -1,6 +1,6 @@
 use native.Mathlib.Omega.{arith}
 use borrow.Author.Needs.{needs}
-use Rattle.net.proofs.Checks.{segment-fields}
+use Rattle.net.proofs.Segments.{segment-fields}
 use Rattle.net.proofs.segment_at.Statement.{statement}
 use Rattle.net.proofs.segment_at.Tie as tie
 use Rattle.net.proofs.segment_at.Reads as reads

@@ -1,6 +1,6 @@
 use native.Mathlib.Omega.{arith}
 use borrow.Author.Needs.{needs}
-use Rattle.net.proofs.Checks.{segments-count}
+use Rattle.net.proofs.Segments.{segments-count}
 use Rattle.net.proofs.segment_count.Statement.{statement}
 use Rattle.net.proofs.segment_count.Tie as tie
 use Rattle.net.proofs.segment_count.Reads as reads
