@@ -1,0 +1,141 @@
+-- What the contracts of the public functions come to: two outcomes that a contract allows are equal; what the answers say in document 01's words;
+-- the round trips over the outcomes of `write_array` and `read_array`. Relies on RoundTrip, Sizes and Lengths.
+use Prim.Native.Nat.{ℕ, _≤_}
+use mathlib.Core.Path.{_≡_, refl, sym, ap, _∙_}
+use mathlib.Core.List.{List, _++_}
+use mathlib.Core.Option.{Option, none, some}
+use mathlib.Core.Bool.{Bool, true, false, cond}
+use native.Mathlib.Omega.{arith}
+use lib.ListN.{length, take}
+use lib.Dec.{ltb}
+use lib.Seq.{take-append-seam, length-take-le}
+use borrow.Author.Tests.{ltb-false, le-ltb}
+use Rattle.net.specs.Net.{Net, netOf, every}
+use Rattle.net.specs.Refusals.{refusal, first, netLines}
+use Rattle.net.specs.Rules.{NetSound}
+use Rattle.net.specs.declared.Segment.{Segment}
+use Rattle.net.specs.declared.Head.{Head}
+use Rattle.net.specs.declared.Refusal.{Refusal}
+use Rattle.records.specs.Numbers.{Bytes, Got, got, refused, number}
+use Rattle.records.specs.Reading.{netRead}
+use Rattle.records.specs.Writing.{netWritten, shortLines, writeRefusal, onto, partOf, afterWriting, roomAfter}
+use Rattle.records.specs.Answers.{saidOf, numberedOf, saysNumbered, padded, readArrayOf, saysRead, writeAnswerBy, writeAnswerOf, saidSize, saysWritten, Writes}
+use Rattle.records.specs.declared.numbers.Numbered.{Numbered}
+use Rattle.records.specs.declared.reading.ReadArray.{ReadArray}
+use Rattle.records.specs.declared.reading.ReadAnswer.the-variants.{Read, Refused as ReadRefused}
+use Rattle.records.specs.declared.writing.WriteAnswer.{WriteAnswer}
+use Rattle.records.specs.declared.writing.WriteAnswer.the-variants.{Written}
+use Rattle.records.proofs.Sizes.{both-none, sound-of, none-of, first-none}
+use Rattle.records.proofs.RoundTrip.{read-of-written, written-of-read}
+
+-- TWO OUTCOMES ARE EQUAL, one law for each public function
+pub number-at-unique : (bytes : List ℕ) (at : ℕ) (r r′ : Numbered) → r ≡ numberedOf (number bytes at) → r′ ≡ numberedOf (number bytes at) → r ≡ r′
+number-at-unique bytes at r r′ e f = e ∙ sym f
+
+-- of `put_number` the part that is handed back: what stands behind it is lent on with it, and no contract can speak of it
+pub put-number-unique : (n : ℕ) (room part part′ : List ℕ) → part ≡ partOf n room → part′ ≡ partOf n room → part ≡ part′
+put-number-unique n room part part′ e f = e ∙ sym f
+
+pub read-array-unique : (bytes : List ℕ) (room : ℕ) (r r′ : ReadArray) → r ≡ readArrayOf (netRead bytes room 0) → r′ ≡ readArrayOf (netRead bytes room 0) → r ≡ r′
+read-array-unique bytes room r r′ e f = e ∙ sym f
+
+pub write-array-unique : (n : Net) (m : ℕ) (room : List ℕ) (r r′ : WriteAnswer) (x x′ : List ℕ) → Writes n m room r x → Writes n m room r′ x′ → (r ≡ r′) × (x ≡ x′)
+write-array-unique n m room r r′ x x′ w v = (w .answers ∙ sym (v .answers), w .leaves ∙ sym (v .leaves))
+
+by-refusal : (o : Option Refusal) (size : ℕ) → saysWritten (writeAnswerBy o size) ≡ saidSize o size
+by-refusal none size = refl
+by-refusal (some r) size = refl
+
+-- WHAT THE ANSWERS SAY: the definitions' result or refusal
+pub says-numbered : (g : Got ℕ) → saysNumbered (numberedOf g) ≡ g
+says-numbered (got n next) = refl
+says-numbered (refused r) = refl
+
+pub says-read : (g : Got Net) → saysRead (readArrayOf g) ≡ saidOf g
+says-read (got n next) = rw (take-append-seam (n .segments))
+says-read (refused r) = refl
+
+pub says-written : (n : Net) (m room : ℕ) → saysWritten (writeAnswerOf n m room) ≡ saidSize (writeRefusal n m room) (length (netWritten n))
+unfolding writeAnswerOf
+says-written n m room = by-refusal (writeRefusal n m room) (length (netWritten n))
+
+-- WRITING, THEN READING
+-- a net that was written is sound, its record stands at the front of the room, and behind it what stood there
+pub record WasWritten (n : Net) (m : ℕ) (room : List ℕ) (size : ℕ) (x : List ℕ) : Type 0 where
+  pub sound : NetSound every m n
+  pub size-is : size ≡ length (netWritten n)
+  pub room-long : length (netWritten n) ≤ length room
+  pub room-is : x ≡ onto (netWritten n) room
+
+not-short : (room size : ℕ) → first (shortLines room size) ≡ none → size ≤ room
+unfolding shortLines first
+not-short room size e = go (ltb room size) refl e
+  where
+    go : (t : Bool) → ltb room size ≡ t → cond t (some (refusal 18 0)) none ≡ none → size ≤ room
+    go true f e = let z : _≡_ {A = ℕ} 0 1 = cc in absurd (omega arith)
+    go false f e = ltb-false room size f
+
+refusal-lines : (n : Net) (m room : ℕ) → first (netLines every m n ++ shortLines room (length (netWritten n))) ≡ writeRefusal n m room
+unfolding writeRefusal
+refusal-lines n m room = refl
+
+short-none : (room size : ℕ) → size ≤ room → first (shortLines room size) ≡ none
+unfolding shortLines first
+short-none room size h = rw (le-ltb room size h)
+
+-- a sound net is written where the room is long enough
+sound-writes : (n : Net) (m : ℕ) (room : List ℕ) → NetSound every m n → length (netWritten n) ≤ length room
+    → (writeAnswerOf n m (length room) ≡ Written (length (netWritten n))) × (roomAfter n m room ≡ onto (netWritten n) room)
+unfolding writeAnswerOf roomAfter
+sound-writes n m room s l =
+    let e : writeRefusal n m (length room) ≡ none =
+    sym (refusal-lines n m (length room)) ∙ first-none (netLines every m n) _ (none-of n m s) ∙ short-none (length room) (length (netWritten n)) l in
+    (rw e, rw e)
+
+pub was-written : (n : Net) (m : ℕ) (room : List ℕ) (r : WriteAnswer) (x : List ℕ) (size : ℕ) → Writes n m room r x → r ≡ Written size → WasWritten n m room size x
+unfolding writeAnswerOf roomAfter
+was-written n m room r x size w f = go (writeRefusal n m (length room)) refl (w .answers) (w .leaves)
+  where
+    none-both : writeRefusal n m (length room) ≡ none → (first (netLines every m n) ≡ none) × (first (shortLines (length room) (length (netWritten n))) ≡ none)
+    none-both e = both-none (netLines every m n) _ (refusal-lines n m (length room) ∙ e)
+
+    go : (o : Option Refusal) → writeRefusal n m (length room) ≡ o → r ≡ writeAnswerBy o (length (netWritten n)) → x ≡ afterWriting o n room → WasWritten n m room size x
+    go none e a b =
+        let p = none-both e in
+        record { sound = sound-of n m (p .0); size-is = cc; room-long = not-short _ _ (p .1); room-is = b }
+    go (some q) e a b = let z : _≡_ {A = ℕ} 0 1 = cc in absurd (omega arith)
+
+-- reading what was written gives the net back
+pub written-then-read : (head : Head) (count : ℕ) (segs : List Segment) (room : List ℕ) (r : WriteAnswer) (x : List ℕ) (size lent : ℕ)
+    → length segs ≡ 2048 → Writes (netOf head count segs) count room r x → r ≡ Written size → count ≤ lent
+    → readArrayOf (netRead (take size x) lent 0) ≡ record { answer = Read head count; segments = padded (take count segs) }
+written-then-read head count segs room r x size lent array w f few =
+    let n = netOf head count segs in
+    let v = was-written n count room r x size w f in
+    let c : length (take count segs) ≡ count = length-take-le count segs (let k = v .sound .few-segments in omega arith) in
+    let k = v .sound in
+    let s : NetSound every (length (take count segs)) n =
+    record { head-sound = k .head-sound; few-segments = omega (arith, k .few-segments); segments-sound = k .segments-sound } in
+    let t : take size x ≡ netWritten n = rw (v .room-is, v .size-is) (take-append-seam (netWritten n) _) in
+    let e = read-of-written n lent s (omega arith) in
+    rw (t, e, c)
+
+-- READING, THEN WRITING: writing what was read gives the bytes back
+pub read-then-written : (bytes : List ℕ) (lent : ℕ) (a : ReadArray) (head : Head) (count : ℕ) (room : List ℕ) (r : WriteAnswer) (x : List ℕ)
+    → Bytes bytes → a ≡ readArrayOf (netRead bytes lent 0) → a .answer ≡ Read head count → length bytes ≤ length room
+    → Writes (netOf head count (a .segments)) count room r x → (r ≡ Written (length bytes)) × (x ≡ onto bytes room)
+read-then-written bytes lent a head count room r x all e f long w = go (netRead bytes lent 0) refl e
+  where
+    go : (g : Got Net) → netRead bytes lent 0 ≡ g → a ≡ readArrayOf g → (r ≡ Written (length bytes)) × (x ≡ onto bytes room)
+    go (refused q) p e = let y : a .answer ≡ ReadRefused q = ap (λ (b : ReadArray). b .answer) e in let z : _≡_ {A = ℕ} 0 1 = cc in absurd (omega arith)
+    go (got n next) p e =
+        let v = written-of-read bytes lent n next all p in
+        let y : a .answer ≡ Read (n .head) (length (n .segments)) = ap (λ (b : ReadArray). b .answer) e in
+        let h : n .head ≡ head = cc in
+        let c : length (n .segments) ≡ count = cc in
+        let g : a .segments ≡ padded (n .segments) = ap (λ (b : ReadArray). b .segments) e in
+        let m : netOf head count (a .segments) ≡ n = rw (g, ← h, ← c, take-append-seam (n .segments)) in
+        let q = sound-writes n (length (n .segments)) room (v .sound) (let l = ap (λ (b : List ℕ). length b) (v .written-is) in omega arith) in
+        let d = v .written-is in
+        let k = rw (m, ← c) at w in
+        (k .answers ∙ q .0 ∙ rw d, k .leaves ∙ q .1 ∙ rw d)

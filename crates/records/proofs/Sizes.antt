@@ -1,0 +1,180 @@
+-- 1 to 7 of a whole net, segment by segment, with what the segments take: the loop that checks and measures before anything is written. Relies on
+-- net's lines of refusals, Lines and Puts.
+use Prim.Native.Nat.{ℕ, zero, suc, _+_, _*_, _<_, _≤_}
+use mathlib.Core.Bool.{Bool, true, false, cond}
+use mathlib.Core.Path.{_≡_, refl, sym, _∙_}
+use mathlib.Core.List.{List, [], _∷_, _++_}
+use mathlib.Core.Option.{Option, none, some}
+use native.Mathlib.Numerals.{add-one}
+use native.Mathlib.Omega.{arith}
+use lib.Dec.{ltb}
+use lib.ListN.{length, take, length-append}
+use lib.Seq.{take-all}
+use borrow.Author.Tests.{ltb-true, ltb-false}
+use Rattle.net.specs.Words.{each}
+use Rattle.net.specs.Net.{Net, every, segmentAt}
+use Rattle.net.specs.Refusals.{Line, first, headLines, segmentLines, presentLines, allSegmentLines, netLines, checkedOf}
+use Rattle.net.specs.declared.Segment.{Segment}
+use Rattle.net.specs.declared.Refusal.{Refusal}
+use Rattle.net.specs.declared.Checked.{Checked}
+use Rattle.net.specs.declared.Checked.the-variants.{Sound, Refused}
+use Rattle.net.specs.Rules.{NetSound}
+use Rattle.records.specs.Writing.{segmentWritten, segmentsWritten}
+use Rattle.records.specs.Answers.{sizedOf}
+use Rattle.records.specs.declared.writing.Sized.the-variants.{Size, Refused as SizeRefused}
+use Rattle.records.specs.Rules.{nothing}
+use Rattle.records.proofs.Lines.{head-only, head-sound, segment-only, segment-sound}
+use Rattle.records.proofs.Puts.{segments-next, taken-at}
+
+-- the first of two runs of lines
+pub first-none : (ls ms : List Line) → first ls ≡ none → first (ls ++ ms) ≡ first ms
+unfolding first
+first-none [] ms e = refl
+first-none (l ∷ ls) ms e = go (l .holds) e (first-none ls ms)
+  where
+    go : (t : Bool) → cond t (some (l .gives)) (first ls) ≡ none → (first ls ≡ none → first (ls ++ ms) ≡ first ms)
+        → cond t (some (l .gives)) (first (ls ++ ms)) ≡ first ms
+    go true e on = let z : _≡_ {A = ℕ} 0 1 = cc in absurd (omega arith)
+    go false e on = on e
+
+pub first-some : (ls ms : List Line) (r : Refusal) → first ls ≡ some r → first (ls ++ ms) ≡ some r
+unfolding first
+first-some [] ms r e = let z : _≡_ {A = ℕ} 0 1 = cc in absurd (omega arith)
+first-some (l ∷ ls) ms r e = go (l .holds) e (first-some ls ms r)
+  where
+    go : (t : Bool) → cond t (some (l .gives)) (first ls) ≡ some r → (first ls ≡ some r → first (ls ++ ms) ≡ some r)
+        → cond t (some (l .gives)) (first (ls ++ ms)) ≡ some r
+    go true e on = e
+    go false e on = on e
+
+pub both-none : (ls ms : List Line) → first (ls ++ ms) ≡ none → (first ls ≡ none) × (first ms ≡ none)
+both-none ls ms e = go (first ls) refl
+  where
+    go : (o : Option Refusal) → first ls ≡ o → (first ls ≡ none) × (first ms ≡ none)
+    go none f = (f, sym (first-none ls ms f) ∙ e)
+    go (some r) f = let g = first-some ls ms r f in let z : _≡_ {A = ℕ} 0 1 = cc in absurd (omega arith)
+
+-- what a check's answer says of the lines
+pub refused-lines : (o : Option Refusal) (v : Checked) (r : Refusal) → v ≡ checkedOf o → v ≡ Refused r → o ≡ some r
+refused-lines none v r e f = let z : _≡_ {A = ℕ} 0 1 = cc in absurd (omega arith)
+refused-lines (some q) v r e f = cc
+
+pub sound-lines : (o : Option Refusal) (v : Checked) → v ≡ checkedOf o → v ≡ Sound → o ≡ none
+sound-lines none v e f = refl
+sound-lines (some q) v e f = let z : _≡_ {A = ℕ} 0 1 = cc in absurd (omega arith)
+
+module _ (posts : ℕ) (ss : List Segment) where
+  -- the lines of segment i, and of all before it
+  abbrev linesOf : ℕ → List Line
+  linesOf i = segmentLines posts (segmentAt ss i) i
+
+  abbrev pub linesTo : ℕ → List Line
+  linesTo n = each n (λ i ls. ls ++ presentLines (every i) (segmentLines posts (segmentAt ss i) i)) []
+
+  pub lines-are : allSegmentLines every posts ss ≡ linesTo (length ss)
+  unfolding allSegmentLines
+  lines-are = refl
+
+  lines-step : (n : ℕ) → linesTo (suc n) ≡ linesTo n ++ linesOf n
+  unfolding presentLines
+  lines-step n = refl
+
+  pub lines-next : (i : ℕ) → first (linesTo i) ≡ none → first (linesOf i) ≡ none → first (linesTo (i + 1)) ≡ none
+  lines-next i e f = rw (add-one, lines-step) (first-none (linesTo i) (linesOf i) e ∙ f)
+
+  pub lines-stop : (n i : ℕ) (r : Refusal) → i < n → first (linesTo i) ≡ none → first (linesOf i) ≡ some r → first (linesTo n) ≡ some r
+  lines-stop zero i r h e f = absurd (omega arith)
+  lines-stop (suc n) i r h e f = go (ltb i n) refl (lines-stop n i r)
+    where
+      go : (t : Bool) → ltb i n ≡ t → (i < n → first (linesTo i) ≡ none → first (linesOf i) ≡ some r → first (linesTo n) ≡ some r) → first (linesTo (suc n)) ≡ some r
+      go true g on = rw lines-step (first-some (linesTo n) (linesOf n) r (on (ltb-true _ _ g) e f))
+      go false g on =
+          let q : i ≡ n = (let l = ltb-false i n g in omega arith) in
+          rw lines-step (first-none (linesTo n) (linesOf n) (rw q at e) ∙ (rw q at f))
+
+  pub lines-none : (n i : ℕ) → i < n → first (linesTo n) ≡ none → first (linesOf i) ≡ none
+  lines-none zero i h e = absurd (omega arith)
+  lines-none (suc n) i h e = go (ltb i n) refl (lines-none n i)
+    where
+      both : (first (linesTo n) ≡ none) × (first (linesOf n) ≡ none)
+      both = both-none (linesTo n) (linesOf n) (rw lines-step at e)
+
+      go : (t : Bool) → ltb i n ≡ t → (i < n → first (linesTo n) ≡ none → first (linesOf i) ≡ none) → first (linesOf i) ≡ none
+      go true g on = on (ltb-true _ _ g) (both .0)
+      go false g on = let q : i ≡ n = (let l = ltb-false i n g in omega arith) in rw q (both .1)
+
+  lines-all : (n : ℕ) → ((i : ℕ) → i < n → first (linesOf i) ≡ none) → first (linesTo n) ≡ none
+  unfolding first
+  lines-all zero h = refl
+  lines-all (suc n) h = rw lines-step (first-none (linesTo n) (linesOf n) (lines-all n (λ i l. h i (omega arith))) ∙ h n (omega arith))
+
+  -- THE LOOP: none of 5 to 7 holds of the first i segments, and they take `size` bytes
+  pub record SizedTo (size place i : ℕ) : Type 0 where
+    pub few : i ≤ length ss
+    pub place-is : place ≡ i
+    pub none-yet : first (linesTo i) ≡ none
+    pub size-is : size ≡ length (segmentsWritten (take i ss))
+    pub small : size ≤ 12 * i
+
+  pub begin-size : SizedTo 0 0 0
+  unfolding first segmentsWritten
+  begin-size = record { few = omega arith; place-is = refl; none-yet = refl; size-is = refl; small = omega arith }
+
+  module _ {size place i : ℕ} (s : SizedTo size place i) where
+    pub size-stops : (v : Checked) (r : Refusal) (t : Segment) → i < length ss → t ≡ segmentAt ss i → v ≡ checkedOf (first (segmentLines posts t place)) → v ≡ Refused r
+        → SizeRefused r ≡ sizedOf posts ss
+    unfolding sizedOf
+    size-stops v r t h q e f =
+        let p = s .place-is in
+        let l : first (linesOf i) ≡ some r = refused-lines _ v r (rw (q, p) at e) f in
+        rw (lines-are, lines-stop (length ss) i r h (s .none-yet) l)
+
+    pub size-next : (v : Checked) (t : Segment) (x : ℕ) → i < length ss → t ≡ segmentAt ss i → v ≡ checkedOf (first (segmentLines posts t place)) → v ≡ Sound
+        → x ≡ length (segmentWritten (segmentAt ss i)) → x ≤ 12 → SizedTo (size + x) (place + 1) (i + 1)
+    size-next v t x h q e f g m =
+        let p = s .place-is in
+        let l : first (linesOf i) ≡ none = sound-lines _ v (rw (q, p) at e) f in
+        let n = s .size-is in
+        let o = s .small in
+        record {
+          few = omega arith;
+          place-is = omega arith;
+          none-yet = lines-next i (s .none-yet) l;
+          size-is = rw (segments-next ss i h, length-append) (omega arith);
+          small = omega arith;
+        }
+
+    pub size-all : length ss ≤ i → Size size ≡ sizedOf posts ss
+    unfolding sizedOf
+    size-all h =
+        let e : i ≡ length ss = (let q = s .few in omega arith) in
+        let n : first (linesTo (length ss)) ≡ none = rw e at (s .none-yet) in
+        rw (lines-are, n, s .size-is, take-all i ss h)
+
+-- segment i of an array, with its ends made wide
+pub taken-as : (segs : List Segment) (count : ℕ) → count ≤ 2048 → length segs ≡ 2048 → (i : ℕ) → i < count → {a b : ℕ} → a ≡ (segmentAt segs i) .a → b ≡ (segmentAt segs i) .b
+    → record { a = a; b = b; length = (segmentAt segs i) .length } ≡ segmentAt (take count segs) i
+taken-as segs count few size i h p q = rw (p, q) (sym (taken-at segs count few size i h))
+
+-- A NET THAT IS NOT REFUSED BY 1 TO 7 IS SOUND, and the other way round; m is the number of segments that is claimed
+module _ (n : Net) (m : ℕ) where
+  lines-apart : netLines every m n ≡ headLines (n .head) m ++ allSegmentLines every (n .head .posts) (n .segments)
+  unfolding netLines
+  lines-apart = refl
+
+  pub sound-of : first (netLines every m n) ≡ none → NetSound every m n
+  sound-of e =
+      let b = both-none (headLines (n .head) m) (allSegmentLines every (n .head .posts) (n .segments)) (rw lines-apart at e) in
+      let h = head-sound (n .head) m (b .0) in
+      record {
+        head-sound = h .0;
+        few-segments = h .1;
+        segments-sound = λ j l _. segment-sound (n .head .posts) _ j (lines-none (n .head .posts) (n .segments) (length (n .segments)) j l (rw lines-are at (b .1)));
+      }
+
+  pub none-of : NetSound every m n → first (netLines every m n) ≡ none
+  none-of s =
+      rw lines-apart
+      (first-none (headLines (n .head) m) _ (head-only (n .head) m (nothing (s .head-sound) (s .few-segments)))
+      ∙ rw lines-are
+      (lines-all (n .head .posts) (n .segments) (length (n .segments)) (λ j l. segment-only (n .head .posts) _ j (nothing (s .segments-sound j l refl)))))

@@ -1,0 +1,112 @@
+-- What the answers of the code say in document 01's words: "either a result or a refusal with its number and its place".
+-- Relies on `Numbers`, `Reading` and `Writing`; the contracts of the code are equations with these.
+use Prim.Native.Nat.{ℕ, _-_}
+use mathlib.Core.Path.{_≡_}
+use mathlib.Core.List.{List, [], _++_}
+use mathlib.Core.Option.{Option, none, some}
+use lib.ListN.{length, replicate}
+use Rattle.net.specs.Net.{Net, netOf, every, beyond}
+use Rattle.net.specs.Refusals.{refusal, first, allSegmentLines}
+use Rattle.net.specs.declared.Segment.{Segment}
+use Rattle.net.specs.declared.Refusal.{Refusal}
+use Rattle.records.specs.Numbers.{Got, got, refused}
+use Rattle.records.specs.Reading.{Triple, Heading}
+use Rattle.records.specs.Writing.{segmentsWritten, netWritten, writeRefusal, roomAfter}
+use Rattle.records.specs.declared.numbers.Numbered.{Numbered}
+use Rattle.records.specs.declared.numbers.Numbered.the-variants.{Number, Refused as NumberRefused}
+use Rattle.records.specs.declared.reading.Three.{Three}
+use Rattle.records.specs.declared.reading.Three.the-variants.{Numbers, Refused as ThreeRefused}
+use Rattle.records.specs.declared.reading.HeadRead.{HeadRead}
+use Rattle.records.specs.declared.reading.HeadRead.the-variants.{Read as ReadHead, Refused as HeadRefused}
+use Rattle.records.specs.declared.reading.SegmentRead.{SegmentRead}
+use Rattle.records.specs.declared.reading.SegmentRead.the-variants.{Read as ReadSegment, Refused as SegmentRefused}
+use Rattle.records.specs.declared.reading.Segmented.the-variants.{All, Refused as SegmentsRefused}
+use Rattle.records.specs.declared.reading.SegmentsRead.{SegmentsRead}
+use Rattle.records.specs.declared.reading.ReadAnswer.{ReadAnswer}
+use Rattle.records.specs.declared.reading.ReadAnswer.the-variants.{Read, Refused as ReadRefused}
+use Rattle.records.specs.declared.reading.ReadArray.{ReadArray}
+use Rattle.records.specs.declared.writing.Sized.{Sized}
+use Rattle.records.specs.declared.writing.Sized.the-variants.{Size, Refused as SizeRefused}
+use Rattle.records.specs.declared.writing.WriteAnswer.{WriteAnswer}
+use Rattle.records.specs.declared.writing.WriteAnswer.the-variants.{Written, Refused as WriteRefused}
+
+-- "An answer is either a result or a refusal"
+pub data Said (X : Type 0) : Type 0 where
+  result : X → Said X
+  refusal-of : Refusal → Said X
+
+abbrev pub saidOf : {X : Type 0} → Got X → Said X
+saidOf (got x next) = result x
+saidOf (refused r) = refusal-of r
+
+-- NUMBERS: the number and the offset after it, or 10 or 11
+abbrev pub numberedOf : Got ℕ → Numbered
+numberedOf (got n next) = Number n next
+numberedOf (refused r) = NumberRefused (r .number) (r .place)
+
+abbrev pub saysNumbered : Numbered → Got ℕ
+saysNumbered (Number n next) = got n next
+saysNumbered (NumberRefused number place) = refused (refusal number place)
+
+-- READING: three numbers, a head, a segment, or the refusal
+abbrev pub threeOf : Got Triple → Three
+threeOf (got t next) = Numbers (t .one) (t .two) (t .three) next
+threeOf (refused r) = ThreeRefused r
+
+abbrev pub headReadOf : Got Heading → HeadRead
+headReadOf (got h next) = ReadHead (h .head) (h .count) next
+headReadOf (refused r) = HeadRefused r
+
+abbrev pub segmentReadOf : Got Segment → SegmentRead
+segmentReadOf (got s next) = ReadSegment s next
+segmentReadOf (refused r) = SegmentRefused r
+
+-- segments at the front of an array of 2,048; behind them it is zero
+abbrev pub padded : List Segment → List Segment
+padded ss = ss ++ replicate (2048 - length ss) beyond
+
+-- the segments that were read, and the offset after them; after a refusal the array is zero
+abbrev pub segmentsReadOf : Got (List Segment) → SegmentsRead
+segmentsReadOf (got ss next) = record { answer = All next; segments = padded ss }
+segmentsReadOf (refused r) = record { answer = SegmentsRefused r; segments = padded [] }
+
+-- the net that was read
+abbrev pub readArrayOf : Got Net → ReadArray
+readArrayOf (got n next) = record { answer = Read (n .head) (length (n .segments)); segments = padded (n .segments) }
+readArrayOf (refused r) = record { answer = ReadRefused r; segments = padded [] }
+
+abbrev pub saysBy : ReadAnswer → List Segment → Said Net
+saysBy (Read h count) ss = result (netOf h count ss)
+saysBy (ReadRefused r) ss = refusal-of r
+
+abbrev pub saysRead : ReadArray → Said Net
+saysRead a = saysBy (a .answer) (a .segments)
+
+-- WRITING: what some segments take, or 5, 6 or 7
+abbrev pub sizedBy : Option Refusal → ℕ → Sized
+sizedBy none size = Size size
+sizedBy (some r) size = SizeRefused r
+
+unfoldable pub sizedOf : ℕ → List Segment → Sized
+sizedOf posts ss = sizedBy (first (allSegmentLines every posts ss)) (length (segmentsWritten ss))
+
+-- the record's length, or a refusal
+abbrev pub writeAnswerBy : Option Refusal → ℕ → WriteAnswer
+writeAnswerBy none size = Written size
+writeAnswerBy (some r) size = WriteRefused r
+
+unfoldable pub writeAnswerOf : Net → ℕ → ℕ → WriteAnswer
+writeAnswerOf n m room = writeAnswerBy (writeRefusal n m room) (length (netWritten n))
+
+abbrev pub saidSize : Option Refusal → ℕ → Said ℕ
+saidSize none size = result size
+saidSize (some r) size = refusal-of r
+
+abbrev pub saysWritten : WriteAnswer → Said ℕ
+saysWritten (Written size) = result size
+saysWritten (WriteRefused r) = refusal-of r
+
+-- what writing does: the answer, and the room afterwards
+pub record Writes (n : Net) (m : ℕ) (room : List ℕ) (answer : WriteAnswer) (after : List ℕ) : Type 0 where
+  pub answers : answer ≡ writeAnswerOf n m (length room)
+  pub leaves : after ≡ roomAfter n m room

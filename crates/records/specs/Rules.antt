@@ -1,0 +1,86 @@
+-- Reading a record as rules, one constructor for each refusal with its place, without tests and without an order of work: each says that nothing before it
+-- holds. proofs/Ruled proves that every record has an answer by these rules, that it has no other, and that `Reading` computes it.
+use Prim.Native.Nat.{ℕ, _+_, _<_, _≤_}
+use mathlib.Core.Path.{_≡_}
+use mathlib.Core.Logic.{_⊎_}
+use mathlib.Core.List.{List, [], _∷_, _++_}
+use mathlib.Core.Option.{Option, none, some}
+use lib.ListN.{length, getD, drop}
+use Rattle.net.specs.Net.{Net, mostPosts, mostSegments, longest, mostRatio}
+use Rattle.net.specs.Refusals.{refusal}
+use Rattle.net.specs.Rules.{PostsSound, HeadSound, EndsSound, SegmentSound}
+use Rattle.net.specs.declared.Segment.{Segment}
+use Rattle.net.specs.declared.Head.{Head}
+use Rattle.net.specs.declared.Refusal.{Refusal}
+use Rattle.records.specs.Numbers.{mostNumbers, written, Got, got, refused}
+
+-- 1 to 4 of a head, whose net has m segments
+pub data HeadRule (h : Head) (m : ℕ) : Option Refusal → Type 0 where
+  one : (h .posts ≡ 0) ⊎ (mostPosts < h .posts) → HeadRule h m (some (refusal 1 0))
+  two : PostsSound h → h .posts ≤ h .source → HeadRule h m (some (refusal 2 0))
+  three : PostsSound h → h .source < h .posts → (h .q ≡ 0) ⊎ ((mostRatio < h .p) ⊎ (mostRatio < h .q)) → HeadRule h m (some (refusal 3 0))
+  four : HeadSound h → mostSegments < m → HeadRule h m (some (refusal 4 0))
+  nothing : HeadSound h → m ≤ mostSegments → HeadRule h m none
+
+-- 5 to 7 of segment i
+pub data SegmentRule (posts : ℕ) (s : Segment) (i : ℕ) : Option Refusal → Type 0 where
+  five : (posts ≤ s .a) ⊎ (posts ≤ s .b) → SegmentRule posts s i (some (refusal 5 i))
+  six : EndsSound posts s → s .a ≡ s .b → SegmentRule posts s i (some (refusal 6 i))
+  seven : EndsSound posts s → (s .a ≡ s .b → ⊥) → (s .length ≡ 0) ⊎ (longest < s .length) → SegmentRule posts s i (some (refusal 7 i))
+  nothing : SegmentSound posts s → SegmentRule posts s i none
+
+-- the bytes w stand from one offset to another
+pub record Stand (bytes : List ℕ) (at : ℕ) (w : List ℕ) (next : ℕ) : Type 0 where
+  pub stand : drop at bytes ≡ w ++ drop next bytes
+  pub size : next ≡ at + length w
+
+module _ (bytes : List ℕ) where
+  -- k bytes are there from `at` on, and each says that more follow
+  abbrev pub MoreFollow : ℕ → ℕ → Type 0
+  MoreFollow at k = (j : ℕ) → j < k → (at + j < length bytes) × (128 ≤ getD bytes (at + j) 0)
+
+  -- A NUMBER: 10 "record ends before a number, or inside one after at most three of its bytes";
+  -- 11 "number not in its shortest form, or a fourth group that says more follow"
+  pub data NumberRule (at : ℕ) : Got ℕ → Type 0 where
+    stands : {n next : ℕ} → n < mostNumbers → Stand bytes at (written n) next → NumberRule at (got n next)
+    ten : {k : ℕ} → k < 4 → MoreFollow at k → length bytes ≤ at + k → NumberRule at (refused (refusal 10 at))
+    eleven-zero : {k : ℕ} → 1 ≤ k → k < 4 → MoreFollow at k → at + k < length bytes → getD bytes (at + k) 0 ≡ 0 → NumberRule at (refused (refusal 11 at))
+    eleven-more : MoreFollow at 4 → NumberRule at (refused (refusal 11 at))
+
+  -- numbers in a row, from one offset to another
+  pub data Row : ℕ → List ℕ → ℕ → Type 0 where
+    empty : {at : ℕ} → Row at [] at
+    next : {at i last n : ℕ} {ns : List ℕ} → NumberRule at (got n i) → Row i ns last → Row at (n ∷ ns) last
+
+  -- fewer than k numbers are there before one that is refused
+  pub record BreaksOff (k at : ℕ) (r : Refusal) : Type 0 where
+    pub ns : List ℕ
+    pub last : ℕ
+    pub row : Row at ns last
+    pub fewer : length ns < k
+    pub refuses : NumberRule last (refused r)
+
+  -- sound segments from the offset `start` on, and the offset after them
+  pub data SoundSegments (posts start : ℕ) : List Segment → ℕ → Type 0 where
+    empty : SoundSegments posts start [] start
+    next : {ss : List Segment} {s : Segment} {at last : ℕ} → SoundSegments posts start ss at → Row at (s .a ∷ s .b ∷ s .length ∷ []) last
+        → SegmentRule posts s (length ss) none → SoundSegments posts start (ss ++ (s ∷ [])) last
+
+  -- the head's five numbers
+  abbrev pub HeadStands : Head → ℕ → ℕ → Type 0
+  HeadStands h count at = Row 0 (h .posts ∷ h .source ∷ h .p ∷ h .q ∷ count ∷ []) at
+
+  -- A RECORD, read into a lent list of `room` segments
+  pub data ReadRule (room : ℕ) : Got Net → Type 0 where
+    head-ten-eleven : {r : Refusal} → BreaksOff 5 0 r → ReadRule room (refused r)
+    one-to-four : {h : Head} {count at : ℕ} {r : Refusal} → HeadStands h count at → HeadRule h count (some r) → ReadRule room (refused r)
+    eight : {h : Head} {count at : ℕ} → HeadStands h count at → HeadRule h count none → room < count → ReadRule room (refused (refusal 8 0))
+    segment-ten-eleven : {h : Head} {count start at : ℕ} {ss : List Segment} {r : Refusal} → HeadStands h count start → HeadRule h count none → count ≤ room
+        → SoundSegments (h .posts) start ss at → length ss < count → BreaksOff 3 at r → ReadRule room (refused r)
+    five-to-seven : {h : Head} {count start at last : ℕ} {ss : List Segment} {s : Segment} {r : Refusal} → HeadStands h count start → HeadRule h count none → count ≤ room
+        → SoundSegments (h .posts) start ss at → length ss < count → Row at (s .a ∷ s .b ∷ s .length ∷ []) last → SegmentRule (h .posts) s (length ss) (some r)
+        → ReadRule room (refused r)
+    twelve : {h : Head} {start at : ℕ} {ss : List Segment} → HeadStands h (length ss) start → HeadRule h (length ss) none → length ss ≤ room
+        → SoundSegments (h .posts) start ss at → at < length bytes → ReadRule room (refused (refusal 12 at))
+    good : {h : Head} {start at : ℕ} {ss : List Segment} → HeadStands h (length ss) start → HeadRule h (length ss) none → length ss ≤ room
+        → SoundSegments (h .posts) start ss at → length bytes ≤ at → ReadRule room (got (record { head = h; segments = ss }) at)
