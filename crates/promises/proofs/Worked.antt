@@ -2,6 +2,7 @@
 use mathlib.Core.Path.{refl}
 use lib.Ieee.{round}
 use Rattle.net.proofs.Worked.{nets-worked}
+use Rattle.records.proofs.Worked.{records-worked}
 use Rattle.drawn.specs.Drawn.{drawnOf}
 use Rattle.promises.specs.Worked.{Worked}
 
@@ -10,6 +11,7 @@ unfolding drawnOf round
 worked =
     record {
       nets = nets-worked;
+      records = records-worked;
       drawn-12-5 = refl;
       drawn-longest = refl;
       drawn-65536 = refl;

@@ -1,7 +1,8 @@
 -- The one table of document 01's statements marked (P), with its other worked examples. proofs/Worked proves it as one theorem.
--- The rows about nets stand beside the definitions of a net, net/specs/Worked.
+-- The rows about nets and about records stand beside their definitions, net/specs/Worked and records/specs/Worked.
 use mathlib.Core.Path.{_≡_}
 use Rattle.net.specs.Worked.{NetsWorked}
+use Rattle.records.specs.Worked.{RecordsWorked}
 use Rattle.drawn.specs.Drawn.{drawnOf}
 use Rattle.drawn.specs.Says.{Says, sixteenths, refused, saysOf}
 use Rattle.drawn.specs.Examples.{mm, minus-mm}
@@ -15,6 +16,8 @@ drawnSays run = saysOf (drawnOf run)
 pub record Worked : Type 0 where
   -- NETS A, B AND C, the refusals, one post and two posts: a row for each statement
   pub nets : NetsWorked
+  -- NUMBERS AND RECORDS, both ways: a row for each statement
+  pub records : RecordsWorked
   -- DRAWN RUNS. (P) "12.5 gives 200."
   pub drawn-12-5 : drawnSays (Straight (mm 125 10)) ≡ sixteenths 200
   -- (P) "65,535.9375 gives 1,048,575; 65,536 is refused with 17."

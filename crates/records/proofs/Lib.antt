@@ -16,4 +16,4 @@ pub mod Lengths
 pub mod RuledNumbers
 pub mod Ruled
 pub mod Outcomes
-pub mod Examples
+pub mod Worked

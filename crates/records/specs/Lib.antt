@@ -4,3 +4,4 @@ pub mod Reading
 pub mod Writing
 pub mod Answers
 pub mod Rules
+pub mod Worked

@@ -1,52 +1,15 @@
-// Refusals 1 to 7: the head of a net, and one segment of it. Reading and writing check by these.
+// Refusals 5 to 7 of one segment, whose numbers may be larger than any post's: as they are read, before they are taken for posts.
 use net::Checked;
-use net::Head;
+use net::LONGEST;
 use net::Refusal;
 ghost use mathlib.Core.Path.{_≡_};
-ghost use Rattle.net.specs.Refusals.{checkedOf, first, headLines, segmentLines};
-
-// The numbers that bound a net, as net's definitions name them.
-const MOST_POSTS: u32 = 256;
-
-const MOST_SEGMENTS: usize = 2048;
-
-const MOST_RATIO: u32 = 10000;
-
-const LONGEST: u32 = 1048575;
+ghost use Rattle.net.specs.Refusals.{checkedOf, first, segmentLines};
 
 // Document 01's number of a refusal, and its place.
 fn refused(number: u32, place: u32) -> Checked
     ensures { λ r. ⌜ r ≡ Checked.Refused (record { number = number; place = place }) ⌝ }
 {
     Checked::Refused(Refusal { number, place })
-}
-
-// 1 to 4, of a net that has `count` segments.
-pub fn head_refusal(head: Head, count: usize) -> Checked
-    ensures { λ r. ⌜ r ≡ checkedOf (first (headLines head count)) ⌝ }
-{
-    if head.posts == 0 {
-        return refused(1, 0);
-    }
-    if MOST_POSTS < head.posts {
-        return refused(1, 0);
-    }
-    if head.posts <= head.source {
-        return refused(2, 0);
-    }
-    if head.q == 0 {
-        return refused(3, 0);
-    }
-    if MOST_RATIO < head.p {
-        return refused(3, 0);
-    }
-    if MOST_RATIO < head.q {
-        return refused(3, 0);
-    }
-    if MOST_SEGMENTS < count {
-        return refused(4, 0);
-    }
-    Checked::Sound
 }
 
 // 5, 6, 7 of segment `place`, which joins posts `a` and `b`.

@@ -1,6 +1,5 @@
 // Reading a record: the five head numbers, 1 to 4, 8, then each segment's three numbers and its 5, 6, 7, then 12. One pass over the bytes.
 // What is read stands in an array of its own, and a refusal leaves it zero: nothing is stored before the whole record is found good.
-use crate::checks::head_refusal;
 use crate::checks::segment_refusal;
 use crate::numbers::Numbered;
 use crate::numbers::number_at;
@@ -8,6 +7,7 @@ use net::Checked;
 use net::Head;
 use net::Refusal;
 use net::Segment;
+use net::check_head;
 ghost use mathlib.Core.Path.{_≡_};
 ghost use Prim.Native.Nat.{_<_, _≤_};
 ghost use lib.ListN.{replicate};
@@ -214,7 +214,7 @@ fn rest_at(bytes: &[u8], room: usize, head: Head, count: u32, at: usize) -> Read
     ensures { λ r. ⌜ r ≡ readArrayOf (restRead (now (bytes .entry)) room (record { head = head; count = count }) at) ⌝ }
 {
     let m = count as usize;
-    let checked = head_refusal(head, m);
+    let checked = check_head(head, m);
     match checked {
         Checked::Refused(r) => refused(r),
         Checked::Sound => {

@@ -1,5 +1,4 @@
 // Writing a net's record. "Writing: 1 to 7, then 18": nothing is written before the whole net is found sound and the room long enough.
-use crate::checks::head_refusal;
 use crate::checks::segment_refusal;
 use crate::numbers::number_size;
 use crate::numbers::put_at;
@@ -7,6 +6,7 @@ use net::Checked;
 use net::Head;
 use net::Refusal;
 use net::Segment;
+use net::check_head;
 ghost use mathlib.Core.Path.{_≡_};
 ghost use Prim.Native.Nat.{_+_, _<_, _≤_};
 ghost use lib.ListN.{length, take};
@@ -144,7 +144,7 @@ pub fn write_array(
 ) -> WriteAnswer
     ensures { λ r. ⌜ Writes (netOf head count segments) count (now (room .entry)) r (now (room .exit)) ⌝ }
 {
-    let checked = head_refusal(head, count);
+    let checked = check_head(head, count);
     match checked {
         Checked::Refused(r) => WriteAnswer::Refused(r),
         Checked::Sound => {

@@ -8,8 +8,8 @@ use Rattle.records.proofs.Passes.{segments-stopped, segments-given, seg
 use Rattle.records.proofs.reading.rest_at.Statement.{statement}
 use Rattle.records.proofs.reading.rest_at.Tie as tie
 
-head-refusal-requires : tie.Need-head-refusal-requires
-head-refusal-requires c κs = search needs
+check-head-requires : tie.Need-check-head-requires
+check-head-requires c κs = search needs
 
 enum-known-checked : tie.Need-enum-known-checked
 enum-known-checked c = search needs
@@ -27,10 +27,10 @@ refused-requires-2 : tie.Need-refused-requires-2
 refused-requires-2 c κs = search needs
 
 returns : tie.Need-returns
-returns c = array-refused (rest-room _ _ _ _ (sound-lines _ _ (c .before .before .before .before .before .head-refusal .ensures) (c .before .before .before .enum-told .given .1)) (omega arith)) (c .before .refusal-at .ensures) (c .refused2 .ensures)
+returns c = array-refused (rest-room _ _ _ _ (sound-lines _ _ (c .before .before .before .before .before .check-head .ensures) (c .before .before .before .enum-told .given .1)) (omega arith)) (c .before .refusal-at .ensures) (c .refused2 .ensures)
 
 segments-at-requires : tie.Need-segments-at-requires
-segments-at-requires c κs = (let s = head-sound _ _ (sound-lines _ _ (c .before .before .before .head-refusal .ensures) (c .before .enum-told .given .1)) in (c .before .before .before .before .before .pre, (s .0 .posts-sound .few-posts, s .1)))
+segments-at-requires c κs = (let s = head-sound _ _ (sound-lines _ _ (c .before .before .before .check-head .ensures) (c .before .enum-told .given .1)) in (c .before .before .before .before .before .pre, (s .0 .posts-sound .few-posts, s .1)))
 
 enum-known-answer : tie.Need-enum-known-answer
 enum-known-answer c = search needs
@@ -42,28 +42,28 @@ enum-known-answer-2 : tie.Need-enum-known-answer-2
 enum-known-answer-2 c = search needs
 
 refusal-at-requires-2 : tie.Need-refusal-at-requires-2
-refusal-at-requires-2 c κs = (let s = head-sound _ _ (sound-lines _ _ (c .before .before .before .before .before .before .before .before .before .head-refusal .ensures) (c .before .before .before .before .before .before .before .enum-told .given .1)) in let k = segments-count _ _ _ _ _ _ _ ((segments-given _ _ _ (c .before .before .before .before .before .segments-at .ensures) (c .before .before .answer2 .given .1)) .is) in omega (arith, s .1, k .1, c .before .before .before .before .before .before .before .before .before .before .before .pre))
+refusal-at-requires-2 c κs = (let s = head-sound _ _ (sound-lines _ _ (c .before .before .before .before .before .before .before .before .before .check-head .ensures) (c .before .before .before .before .before .before .before .enum-told .given .1)) in let k = segments-count _ _ _ _ _ _ _ ((segments-given _ _ _ (c .before .before .before .before .before .segments-at .ensures) (c .before .before .answer2 .given .1)) .is) in omega (arith, s .1, k .1, c .before .before .before .before .before .before .before .before .before .before .before .pre))
 
 refused-requires-4 : tie.Need-refused-requires-4
 refused-requires-4 c κs = search needs
 
 returns-2 : tie.Need-returns-2
-returns-2 c = (let g = segments-given _ _ _ (c .before .before .before .before .before .before .before .segments-at .ensures) (c .before .before .before .before .answer2 .given .1) in array-refused (rest-more _ _ _ _ (sound-lines _ _ (c .before .before .before .before .before .before .before .before .before .before .before .head-refusal .ensures) (c .before .before .before .before .before .before .before .before .before .enum-told .given .1)) (omega arith) (g .is) (omega arith)) (c .before .refusal-at2 .ensures) (c .refused4 .ensures))
+returns-2 c = (let g = segments-given _ _ _ (c .before .before .before .before .before .before .before .segments-at .ensures) (c .before .before .before .before .answer2 .given .1) in array-refused (rest-more _ _ _ _ (sound-lines _ _ (c .before .before .before .before .before .before .before .before .before .before .before .check-head .ensures) (c .before .before .before .before .before .before .before .before .before .enum-told .given .1)) (omega arith) (g .is) (omega arith)) (c .before .refusal-at2 .ensures) (c .refused4 .ensures))
 
 returns-3 : tie.Need-returns-3
-returns-3 c = array-refused (rest-head _ _ _ _ (refused-lines _ _ _ (c .before .before .before .before .head-refusal .ensures) (c .before .before .checked .given .1))) refl (c .refused .ensures)
+returns-3 c = array-refused (rest-head _ _ _ _ (refused-lines _ _ _ (c .before .before .before .before .check-head .ensures) (c .before .before .checked .given .1))) refl (c .refused .ensures)
 
 returns-4 : tie.Need-returns-4
-returns-4 c = array-refused (rest-segments _ _ _ _ (sound-lines _ _ (c .before .before .before .before .before .before .before .before .before .head-refusal .ensures) (c .before .before .before .before .before .before .before .enum-told .given .1)) (omega arith) (segments-stopped _ _ _ (c .before .before .before .before .before .segments-at .ensures) (c .before .before .answer .given .1))) refl (c .refused3 .ensures)
+returns-4 c = array-refused (rest-segments _ _ _ _ (sound-lines _ _ (c .before .before .before .before .before .before .before .before .before .check-head .ensures) (c .before .before .before .before .before .before .before .enum-told .given .1)) (omega arith) (segments-stopped _ _ _ (c .before .before .before .before .before .segments-at .ensures) (c .before .before .answer .given .1))) refl (c .refused3 .ensures)
 
 returns-5 : tie.Need-returns-5
-returns-5 c = (let g = segments-given _ _ _ (c .before .before .before .before .before .segments-at .ensures) (c .before .before .answer2 .given .1) in let k = segments-count _ _ _ _ _ _ _ ((segments-given _ _ _ (c .before .before .before .before .before .segments-at .ensures) (c .before .before .answer2 .given .1)) .is) in array-read (rest-all _ _ _ _ (sound-lines _ _ (c .before .before .before .before .before .before .before .before .before .head-refusal .ensures) (c .before .before .before .before .before .before .before .enum-told .given .1)) (omega arith) (g .is) (omega arith)) (k .0) (g .array-is))
+returns-5 c = (let g = segments-given _ _ _ (c .before .before .before .before .before .segments-at .ensures) (c .before .before .answer2 .given .1) in let k = segments-count _ _ _ _ _ _ _ ((segments-given _ _ _ (c .before .before .before .before .before .segments-at .ensures) (c .before .before .answer2 .given .1)) .is) in array-read (rest-all _ _ _ _ (sound-lines _ _ (c .before .before .before .before .before .before .before .before .before .check-head .ensures) (c .before .before .before .before .before .before .before .enum-told .given .1)) (omega arith) (g .is) (omega arith)) (k .0) (g .array-is))
 
 pub rest-at-spec : {M : Type 1} → statement M
 rest-at-spec =
     tie.close
     (tie.spec
-    head-refusal-requires
+    check-head-requires
     enum-known-checked
     refused-requires
     enum-told

@@ -4,8 +4,8 @@ use Rattle.records.proofs.Writes.{refused-answer, refused-room, head-re
 use Rattle.records.proofs.writing.write_array.Statement.{statement}
 use Rattle.records.proofs.writing.write_array.Tie as tie
 
-head-refusal-requires : tie.Need-head-refusal-requires
-head-refusal-requires c κs = search needs
+check-head-requires : tie.Need-check-head-requires
+check-head-requires c κs = search needs
 
 enum-known-checked : tie.Need-enum-known-checked
 enum-known-checked c = search needs
@@ -14,7 +14,7 @@ enum-told : tie.Need-enum-told
 enum-told c = search needs
 
 segments-size-requires : tie.Need-segments-size-requires
-segments-size-requires c κs = count-few (c .before .before .before .before .args .head) (c .before .before .before .before .args .count) (c .before .before .before .before .args .segments) _ (c .before .before .head-refusal .ensures) (c .enum-told .given .1)
+segments-size-requires c κs = count-few (c .before .before .before .before .args .head) (c .before .before .before .before .args .count) (c .before .before .before .before .args .segments) _ (c .before .before .check-head .ensures) (c .enum-told .given .1)
 
 enum-known-sized : tie.Need-enum-known-sized
 enum-known-sized c = search needs
@@ -23,13 +23,13 @@ enum-known-sized-2 : tie.Need-enum-known-sized-2
 enum-known-sized-2 c = search needs
 
 write-sound-requires : tie.Need-write-sound-requires
-write-sound-requires c κs = segments-pass (c .before .before .before .before .before .before .before .before .before .args .head) (c .before .before .before .before .before .before .before .before .before .args .count) (c .before .before .before .before .before .before .before .before .before .args .segments) _ (c .before .before .before .before .before .before .before .head-refusal .ensures) (c .before .before .before .before .before .enum-told .given .1) _ _ (c .before .before .before .before .segments-size .ensures) (c .before .before .sized2 .given .1)
+write-sound-requires c κs = segments-pass (c .before .before .before .before .before .before .before .before .before .args .head) (c .before .before .before .before .before .before .before .before .before .args .count) (c .before .before .before .before .before .before .before .before .before .args .segments) _ (c .before .before .before .before .before .before .before .check-head .ensures) (c .before .before .before .before .before .enum-told .given .1) _ _ (c .before .before .before .before .segments-size .ensures) (c .before .before .sized2 .given .1)
 
 returns : tie.Need-returns
-returns c = let e = head-refuses (c .before .before .before .before .before .args .head) (c .before .before .before .before .before .args .count) (c .before .before .before .before .before .args .segments) _ _ (c .before .before .before .head-refusal .ensures) (c .before .checked .given .1) in record { answers = refused-answer (c .before .before .before .before .before .args .head) (c .before .before .before .before .before .args .count) (c .before .before .before .before .before .args .segments) _ _ e; leaves = refused-room (c .before .before .before .before .before .args .head) (c .before .before .before .before .before .args .count) (c .before .before .before .before .before .args .segments) _ _ e }
+returns c = let e = head-refuses (c .before .before .before .before .before .args .head) (c .before .before .before .before .before .args .count) (c .before .before .before .before .before .args .segments) _ _ (c .before .before .before .check-head .ensures) (c .before .checked .given .1) in record { answers = refused-answer (c .before .before .before .before .before .args .head) (c .before .before .before .before .before .args .count) (c .before .before .before .before .before .args .segments) _ _ e; leaves = refused-room (c .before .before .before .before .before .args .head) (c .before .before .before .before .before .args .count) (c .before .before .before .before .before .args .segments) _ _ e }
 
 returns-2 : tie.Need-returns-2
-returns-2 c = let e = segments-refuse (c .before .before .before .before .before .before .before .before .args .head) (c .before .before .before .before .before .before .before .before .args .count) (c .before .before .before .before .before .before .before .before .args .segments) _ (c .before .before .before .before .before .before .head-refusal .ensures) (c .before .before .before .before .enum-told .given .1) _ _ (c .before .before .before .segments-size .ensures) (c .before .sized .given .1) in record { answers = refused-answer (c .before .before .before .before .before .before .before .before .args .head) (c .before .before .before .before .before .before .before .before .args .count) (c .before .before .before .before .before .before .before .before .args .segments) _ _ e; leaves = refused-room (c .before .before .before .before .before .before .before .before .args .head) (c .before .before .before .before .before .before .before .before .args .count) (c .before .before .before .before .before .before .before .before .args .segments) _ _ e }
+returns-2 c = let e = segments-refuse (c .before .before .before .before .before .before .before .before .args .head) (c .before .before .before .before .before .before .before .before .args .count) (c .before .before .before .before .before .before .before .before .args .segments) _ (c .before .before .before .before .before .before .check-head .ensures) (c .before .before .before .before .enum-told .given .1) _ _ (c .before .before .before .segments-size .ensures) (c .before .sized .given .1) in record { answers = refused-answer (c .before .before .before .before .before .before .before .before .args .head) (c .before .before .before .before .before .before .before .before .args .count) (c .before .before .before .before .before .before .before .before .args .segments) _ _ e; leaves = refused-room (c .before .before .before .before .before .before .before .before .args .head) (c .before .before .before .before .before .before .before .before .args .count) (c .before .before .before .before .before .before .before .before .args .segments) _ _ e }
 
 same-length : tie.Need-same-length
 same-length c = search needs
@@ -41,7 +41,7 @@ pub write-array-spec : {M : Type 1} → statement M
 write-array-spec =
     tie.close
     (tie.spec
-    head-refusal-requires
+    check-head-requires
     enum-known-checked
     enum-told
     segments-size-requires

@@ -1,14 +1,14 @@
--- Document 01's worked examples of the record, computed from the definitions: those marked (P) and those that are named beside them.
--- Relies on specs/ alone. The rows of the one table in `promises` are made the same way.
+-- Document 01's worked examples of the record as one table, a row for each statement: those marked (P), and those that are named beside them.
+-- proofs/Worked computes all rows as one theorem, and the crate `promises` joins them to the one table of all statements marked (P).
 use Prim.Native.Nat.{ℕ}
-use mathlib.Core.Path.{_≡_, refl}
+use mathlib.Core.Path.{_≡_}
 use mathlib.Core.List.{List, [], _∷_}
 use Rattle.net.specs.Net.{Net}
-use Rattle.net.specs.Refusals.{refusal, first, headLines, segmentLines}
+use Rattle.net.specs.Refusals.{refusal}
 use Rattle.net.specs.declared.Segment.{Segment}
-use Rattle.records.specs.Numbers.{groups, written, got, refused, groupsAt, number}
-use Rattle.records.specs.Reading.{hold, roomLines, heading, segment, segments, ended, restRead, netRead}
-use Rattle.records.specs.Writing.{headWritten, segmentWritten, segmentsWritten, netWritten}
+use Rattle.records.specs.Numbers.{written, got, refused, number}
+use Rattle.records.specs.Reading.{netRead}
+use Rattle.records.specs.Writing.{netWritten}
 
 abbrev pub joined : ℕ → ℕ → ℕ → Segment
 joined a b l = record { a = a; b = b; length = l }
@@ -27,7 +27,7 @@ netA = record {
 abbrev pub bytesA : List ℕ
 bytesA = 4 ∷ 0 ∷ 1 ∷ 1 ∷ 5 ∷ 0 ∷ 1 ∷ 4 ∷ 1 ∷ 2 ∷ 4 ∷ 2 ∷ 3 ∷ 4 ∷ 0 ∷ 3 ∷ 5 ∷ 0 ∷ 2 ∷ 6 ∷ []
 
-pub record Rows : Type 0 where
+pub record RecordsWorked : Type 0 where
   -- (P) "127 is byte 127; 128 is 128, 1; 300 is 172, 2"
   pub p127 : written 127 ≡ 127 ∷ []
   pub p128 : written 128 ≡ 128 ∷ 1 ∷ []
@@ -50,24 +50,3 @@ pub record Rows : Type 0 where
   pub a-more : netRead (2 ∷ 0 ∷ 1 ∷ 2 ∷ 1 ∷ 0 ∷ 1 ∷ 172 ∷ 2 ∷ 0 ∷ []) 1 0 ≡ refused (refusal 12 9)
   pub a-short : netRead bytesA 4 0 ≡ refused (refusal 8 0)
   pub one-before-eight : netRead (0 ∷ 0 ∷ 1 ∷ 1 ∷ 5 ∷ []) 0 0 ≡ refused (refusal 1 0)
-
-pub rows : Rows
-unfolding groups written groupsAt number first headLines segmentLines hold roomLines heading segment segments ended restRead netRead headWritten segmentWritten segmentsWritten netWritten
-rows = record {
-  p127 = refl;
-  p128 = refl;
-  p300 = refl;
-  p11 = refl;
-  p-record = refl;
-  p-read = refl;
-  largest = refl;
-  largest-read = refl;
-  fourth-more = refl;
-  empty = refl;
-  zero-alone = refl;
-  a-written = refl;
-  a-read = refl;
-  a-more = refl;
-  a-short = refl;
-  one-before-eight = refl;
-}
