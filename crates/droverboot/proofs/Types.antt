@@ -1,0 +1,17 @@
+-- The entries' plain types, as lent's `Params` takes them.
+use Rattle.lent.proofs.Params.{Data, struct, enum}
+use Rattle.records.proofs.writing.WriteAnswer as WriteAnswer
+use Rattle.records.proofs.writing.WriteAnswer.Laws as WriteAnswer′
+use Rattle.records.proofs.reading.ReadAnswer as ReadAnswer
+use Rattle.records.proofs.reading.ReadAnswer.Laws as ReadAnswer′
+use Rattle.records.proofs.reading.ReadArray as ReadArray
+use Rattle.records.proofs.reading.ReadArray.Laws as ReadArray′
+
+abbrev pub write-answer : Data
+write-answer = enum WriteAnswer.the-type tt WriteAnswer′.the-laws WriteAnswer′.the-copy WriteAnswer′.the-plain
+
+abbrev pub read-answer : Data
+read-answer = enum ReadAnswer.the-type tt ReadAnswer′.the-laws ReadAnswer′.the-copy ReadAnswer′.the-plain
+
+abbrev pub read-array : Data
+read-array = struct ReadArray.the-type ReadArray′.the-laws ReadArray′.the-copy ReadArray′.the-plain

@@ -1,0 +1,24 @@
+-- What reading a record into a lent list answers, and what the list holds afterwards. Relies on records' `netRead`.
+use mathlib.Core.List.{List, _++_}
+use Prim.Native.Nat.{ℕ}
+use lib.ListN.{length, drop}
+use Rattle.net.specs.Net.{Net}
+use Rattle.net.specs.declared.Segment.{Segment}
+use Rattle.records.specs.Numbers.{Got, got, refused}
+use Rattle.records.specs.declared.reading.ReadAnswer.{ReadAnswer}
+use Rattle.records.specs.declared.reading.ReadAnswer.the-variants.{Read, Refused}
+
+-- how many segments an answer says were read
+abbrev pub countOf : ReadAnswer → ℕ
+countOf (Read h n) = n
+countOf (Refused r) = 0
+
+-- the head of the net that was read and how many segments it has, or the refusal
+abbrev pub readAnswer : Got Net → ReadAnswer
+readAnswer (got n next) = Read (n .head) (length (n .segments))
+readAnswer (refused r) = Refused r
+
+-- the lent list afterwards: the segments that were read, and behind them what it held; after a refusal "what it held before"
+abbrev pub listRead : Got Net → List Segment → List Segment
+listRead (got n next) l = n .segments ++ drop (length (n .segments)) l
+listRead (refused r) l = l

@@ -1,0 +1,5 @@
+-- Laws for the proofs of building and margin.
+pub mod Unpacked
+pub mod Putting
+pub mod Ready
+pub mod Ways

@@ -1,0 +1,141 @@
+-- The ways out of building: refused by 1 to 7, by 8, by 9, or built. Each says what is left of the answer and of the three lists.
+use mathlib.Core.Path.{_≡_, refl, sym, _∙_}
+use mathlib.Core.List.{List, _++_}
+use mathlib.Core.Option.{Option, none, some}
+use Prim.Native.Nat.{ℕ, _≤_, _<_}
+use native.Mathlib.Omega.{arith}
+use borrow.Author.Tests.{le-ltb}
+use lib.ListN.{length, drop, take}
+use mathlib.Core.Bool.{true, false, _||_}
+use lib.Dec.{ltb}
+use Rattle.net.specs.Net.{Net, every, segmentsOf, netOf, lengthAt, longest}
+use Rattle.net.specs.Refusals.{Lent, refusal, first, headLines, netLines, lentLines, joinedLines, checkedOf, checkOf}
+use Rattle.net.specs.Rules.{TooShort, BuildRule}
+use Rattle.net.specs.Rules as R
+use Rattle.net.specs.Trees.{leastLengths, joined}
+use Rattle.net.specs.Building.{lightestOf, shortestOf, betweenOf, laidOf, treeOf, joinedToSource, buildRefusal, measured, buildAnswer, buildOf, listAfter, afterBuild}
+use Rattle.net.specs.declared.Head.{Head}
+use Rattle.net.specs.declared.Segment.{Segment}
+use Rattle.net.specs.declared.Refusal.{Refusal}
+use Rattle.net.specs.declared.Checked.{Checked}
+use Rattle.net.specs.declared.Checked.the-variants.{Sound, Refused as Unsound}
+use Rattle.net.proofs.Tables.{FirstOf, below, end, first-only, first-is, some-append, none-append}
+use Rattle.net.proofs.Faults.{sound-first}
+use Rattle.net.proofs.Refusals.{build-only}
+use Rattle.net.proofs.Checks.{said-refused, check-sound, check-faulty}
+use Rattle.shortest.specs.Lists.{note}
+use Rattle.shortest.specs.Notes.{LowestApart}
+use Rattle.net.proofs.Segments.{length-segments}
+use Rattle.shortest.proofs.Apart.{apart-none, apart-some}
+use Rattle.shortest.proofs.Measures.{short-segments}
+use Rattle.looms.specs.Ready.{netAt, Ready}
+use Rattle.looms.specs.Answers.{measuredIn, lentOf, Leaves, BuiltAll}
+use Rattle.looms.specs.declared.Answer.{Answer}
+use Rattle.looms.specs.declared.Answer.the-variants.{Built, Refused}
+use Rattle.looms.proofs.Ready.{ready-inside, ready-source, ready-posts, ready-short}
+
+module _ (n : Net) (m : ℕ) (l s w : List ℕ) where
+  -- "after a refusal .. what it held before"
+  pub leaves-refused : {r : Refusal} → some r ≡ buildRefusal every n m (lentOf l s w) → Leaves n m l s w (Refused r) l s w
+  unfolding buildOf buildAnswer afterBuild listAfter
+  leaves-refused e = record { answer = rw (← e); lightest = rw (← e); shortest = rw (← e); between = rw (← e) }
+
+  pub leaves-built : {r : Answer} {l′ s′ w′ : List ℕ} → none ≡ buildRefusal every n m (lentOf l s w) → BuiltAll n l s w r l′ s′ w′ → Leaves n m l s w r l′ s′ w′
+  unfolding buildOf afterBuild
+  leaves-built e z = record { answer = rw (← e) (z .answer); lightest = rw (← e) (z .lightest); shortest = rw (← e) (z .shortest); between = rw (← e) (z .between) }
+
+  -- 1 to 4, by the head alone
+  pub leaves-head : {v : Checked} {r : Refusal} → v ≡ checkedOf (first (headLines (n .head) m)) → v ≡ Unsound r → Leaves n m l s w (Refused r) l s w
+  unfolding buildRefusal netLines
+  leaves-head e f = leaves-refused (first-only (some-append _ (some-append _ (said-refused e f))))
+
+-- 8 does not hold
+lent-none : (posts : ℕ) (lent : Lent) → posts ≤ lent .lightest → posts ≤ lent .shortest → posts ≤ lent .between → FirstOf (lentLines posts lent) none
+unfolding lentLines
+lent-none posts lent h k g =
+    let e : (ltb (lent .lightest) posts || ltb (lent .shortest) posts || ltb (lent .between) posts) ≡ false = rw (le-ltb _ _ h, le-ltb _ _ k, le-ltb _ _ g) in
+    below e end
+
+-- none of 1 to 7
+pub ready-sound : (head : Head) (a b lengths : List ℕ) {v : Checked} → length b ≡ length a → length lengths ≡ length a → v ≡ checkOf head (segmentsOf a b lengths) → v ≡ Sound → Ready head a b lengths
+ready-sound head a b lengths h k e f = record { b-level = h; lengths-level = k; sound = check-sound head (segmentsOf a b lengths) .0 (sym e ∙ f) }
+
+-- 9: d are the least lengths, z says which is the lowest post without one
+module _ {head : Head} {a b lengths : List ℕ} (r : Ready head a b lengths) {posts source apart : ℕ} (posts-is : posts ≡ head .posts) (source-is : source ≡ head .source) {d : List ℕ} (rest : List ℕ)
+    (e : d ≡ leastLengths (segmentsOf a b lengths) every posts source ++ rest) (z : LowestApart posts (note d) apart) where
+  short-all : (i : ℕ) → i < length (segmentsOf a b lengths) → every i ≡ true → lengthAt (segmentsOf a b lengths) i ≤ longest
+  short-all i p q = short-segments a b lengths (r .b-level) (r .lengths-level) (ready-short r) i
+
+  d-is : d ≡ leastLengths (segmentsOf a b lengths) every (head .posts) (head .source) ++ rest
+  d-is = e ∙ rw (posts-is, source-is)
+
+  z-is : LowestApart (head .posts) (note d) apart
+  z-is = rw posts-is at z
+
+  joined-same : (v : ℕ) → joinedToSource every (netAt head a b lengths) v ≡ joined (segmentsOf a b lengths) (head .posts) every (head .source) v
+  unfolding joinedToSource
+  joined-same v = refl
+
+  -- "lowest such post"
+  pub table-apart : apart < posts → first (joinedLines (head .posts) (joinedToSource every (netAt head a b lengths))) ≡ some (refusal 9 apart)
+  table-apart p =
+      apart-some (segmentsOf a b lengths) every (head .posts) (ready-inside r) (head .source) (ready-source r) (ready-posts r) short-all d rest d-is apart z-is (joinedToSource every (netAt head a b lengths)) joined-same (omega arith)
+
+  -- every post is joined
+  pub table-joined : posts ≤ apart → first (joinedLines (head .posts) (joinedToSource every (netAt head a b lengths))) ≡ none
+  table-joined p =
+      apart-none (segmentsOf a b lengths) every (head .posts) (ready-inside r) (head .source) (ready-source r) (ready-posts r) short-all d rest d-is apart z-is (joinedToSource every (netAt head a b lengths)) joined-same (omega arith)
+
+-- three lists side by side
+module _ (head : Head) (a b lengths l s w : List ℕ) where
+  -- 1 to 7
+  pub leaves-faulty : {v : Checked} {r : Refusal} → v ≡ checkOf head (segmentsOf a b lengths) → v ≡ Unsound r
+      → Leaves (netAt head a b lengths) (length (segmentsOf a b lengths)) l s w (Refused r) l s w
+  leaves-faulty e f =
+      leaves-refused _ _ l s w (build-only every _ (netAt head a b lengths) (lentOf l s w) (R.BuildRule.one-to-seven (check-faulty head (segmentsOf a b lengths) .0 (sym e ∙ f))))
+
+  module _ (r : Ready head a b lengths) where
+    -- 8
+    pub leaves-short : TooShort (netAt head a b lengths) (lentOf l s w) → {x : Answer} → x ≡ Refused (refusal 8 0) → Leaves (netAt head a b lengths) (length (segmentsOf a b lengths)) l s w x l s w
+    leaves-short h e = rw e (leaves-refused _ _ l s w (build-only every _ (netAt head a b lengths) (lentOf l s w) (R.BuildRule.eight (r .sound) h)))
+
+    -- 9, or nothing: what the posts in turn give is what the whole table gives
+    module _ (h : head .posts ≤ length l) (k : head .posts ≤ length s) (g : head .posts ≤ length w) where
+      joined-left : {o : Option Refusal} → first (joinedLines (head .posts) (joinedToSource every (netAt head a b lengths))) ≡ o
+          → o ≡ buildRefusal every (netAt head a b lengths) (length (segmentsOf a b lengths)) (lentOf l s w)
+      unfolding buildRefusal
+      joined-left e = first-only (none-append (sound-first every _ (netAt head a b lengths) (r .sound)) (none-append (lent-none (head .posts) (lentOf l s w) h k g) (first-is e)))
+
+      module _ {posts source apart : ℕ} (posts-is : posts ≡ head .posts) (source-is : source ≡ head .source) {d : List ℕ} (rest : List ℕ)
+          (e : d ≡ leastLengths (segmentsOf a b lengths) every posts source ++ rest) (z : LowestApart posts (note d) apart) where
+        -- 9, "lowest such post"
+        pub leaves-apart : apart < posts → {x : Answer} → x ≡ Refused (refusal 9 apart) → Leaves (netAt head a b lengths) (length (segmentsOf a b lengths)) l s w x l s w
+        leaves-apart p f = rw f (leaves-refused _ _ l s w (joined-left (table-apart r posts-is source-is rest e z p)))
+
+        -- every post is joined
+        pub leaves-joined : posts ≤ apart → {x : Answer} {l′ s′ w′ : List ℕ} → BuiltAll (netAt head a b lengths) l s w x l′ s′ w′
+            → Leaves (netAt head a b lengths) (length (segmentsOf a b lengths)) l s w x l′ s′ w′
+        leaves-joined p y = leaves-built _ _ l s w (joined-left (table-joined r posts-is source-is rest e z p)) y
+
+-- THE ANSWER put together: the trees, what they measure, and the lists they are put into
+module _ (n : Net) {light short third : List ℕ} (light-is : light ≡ lightestOf every n) (short-is : short ≡ shortestOf every n) (third-is : third ≡ betweenOf every n) where
+  pub built-all : {r : Answer} {laid : ℕ} (l s w : List ℕ) {l′ s′ w′ : List ℕ} → r ≡ Built (measuredIn n light) (measuredIn n short) (measuredIn n third) laid → laid ≡ length (laidOf every n)
+      → length light ≡ n .head .posts → length short ≡ n .head .posts → length third ≡ n .head .posts
+      → l′ ≡ light ++ drop (length light) l → s′ ≡ short ++ drop (length short) s → w′ ≡ third ++ drop (length third) w
+      → BuiltAll n l s w r l′ s′ w′
+  unfolding buildAnswer measured treeOf listAfter
+  built-all l s w e el i j k f g h =
+      record {
+        answer = e ∙ rw (el, light-is, short-is, third-is);
+        lightest = rw (i, light-is) at f;
+        shortest = rw (j, short-is) at g;
+        between = rw (k, third-is) at h;
+      }
+
+-- THE ARRAY: the three lists hold its first segments
+pub leaves-array : (head : Head) (count : ℕ) (segments : List Segment) (a b lengths : List ℕ) → segmentsOf a b lengths ≡ take count segments → length a ≡ count → length b ≡ count → length lengths ≡ count
+    → {l s w : List ℕ} {r : Answer} {l′ s′ w′ : List ℕ}
+    → Leaves (netAt head a b lengths) (length (segmentsOf a b lengths)) l s w r l′ s′ w′ → Leaves (netOf head count segments) count l s w r l′ s′ w′
+leaves-array head count segments a b lengths e i j k z =
+    let c : length (segmentsOf a b lengths) ≡ count = length-segments a b lengths (j ∙ sym i) (k ∙ sym i) ∙ i in
+    rw e at (rw c at z)

@@ -1,0 +1,65 @@
+-- What an answer of building or margin says in document 01's terms, for each case of the code's enums.
+use mathlib.Core.Path.{_≡_}
+use mathlib.Core.Option.{none}
+use mathlib.Core.List.{List}
+use Prim.Native.Nat.{ℕ}
+use lib.ListN.{length}
+use Rattle.net.specs.Net.{Net, every}
+use Rattle.net.specs.Refusals.{Lent}
+use Rattle.net.specs.Trees.{whole, radius}
+use Rattle.net.specs.Building.{BuildAnswer, built, refused, buildOf, buildAnswer, listAfter, afterBuild}
+use Rattle.net.specs.Building as B
+use Rattle.net.specs.declared.Tree.the-variants.{Lightest, Shortest, Between}
+use Rattle.looms.specs.declared.Measured.{Measured}
+use Rattle.looms.specs.declared.Answer.{Answer}
+use Rattle.looms.specs.declared.Answer.the-variants.{Built, Refused}
+use Rattle.looms.specs.declared.MarginAnswer.{MarginAnswer}
+use Rattle.looms.specs.declared.MarginAnswer.the-variants.{Margin, Refused as Unmeasured}
+
+-- length and radius
+abbrev pub measuredOf : B.Measured → Measured
+measuredOf m = record { length = m .length; radius = m .radius }
+
+-- those of a tree list of a net
+abbrev pub measuredIn : Net → List ℕ → Measured
+measuredIn n t = record { length = whole (n .segments) (n .head .posts) t; radius = radius (n .segments) (n .head .posts) t }
+
+-- what building answers in the code's enum
+abbrev pub answerOf : BuildAnswer → Answer
+answerOf (built l s b k) = Built (measuredOf l) (measuredOf s) (measuredOf b) k
+answerOf (refused r) = Refused r
+
+-- and what an answer of building says in document 01's terms
+abbrev pub measuredSays : Measured → B.Measured
+measuredSays m = record { length = m .length; radius = m .radius }
+
+abbrev pub saysOf : Answer → BuildAnswer
+saysOf (Built l s b k) = built (measuredSays l) (measuredSays s) (measuredSays b) k
+saysOf (Refused r) = refused r
+
+-- the same of a margin
+abbrev pub marginAnswerOf : B.MarginAnswer → MarginAnswer
+marginAnswerOf (B.MarginAnswer.margin z) = Margin z
+marginAnswerOf (B.MarginAnswer.refused r) = Unmeasured r
+
+abbrev pub marginSaysOf : MarginAnswer → B.MarginAnswer
+marginSaysOf (Margin z) = B.MarginAnswer.margin z
+marginSaysOf (Unmeasured r) = B.MarginAnswer.refused r
+
+-- how many entries three lists have
+abbrev pub lentOf : List ℕ → List ℕ → List ℕ → Lent
+lentOf l s b = record { lightest = length l; shortest = length s; between = length b }
+
+-- BUILDING. What it leaves of a net n that claims m segments, where the three lists held l, s and w: its answer r, and what the lists hold then
+pub record Leaves (n : Net) (m : ℕ) (l s w : List ℕ) (r : Answer) (l′ s′ w′ : List ℕ) : Type 0 where
+  pub answer : r ≡ answerOf (buildOf every n m (lentOf l s w))
+  pub lightest : l′ ≡ afterBuild every n m (lentOf l s w) Lightest l
+  pub shortest : s′ ≡ afterBuild every n m (lentOf l s w) Shortest s
+  pub between : w′ ≡ afterBuild every n m (lentOf l s w) Between w
+
+-- the same where nothing is refused
+pub record BuiltAll (n : Net) (l s w : List ℕ) (r : Answer) (l′ s′ w′ : List ℕ) : Type 0 where
+  pub answer : r ≡ answerOf (buildAnswer every n none)
+  pub lightest : l′ ≡ listAfter every n none Lightest l
+  pub shortest : s′ ≡ listAfter every n none Shortest s
+  pub between : w′ ≡ listAfter every n none Between w
