@@ -1,0 +1,1 @@
+-- The program cites the definitions of the crates below it.
