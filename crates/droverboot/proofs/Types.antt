@@ -1,5 +1,7 @@
 -- The entries' plain types, as lent's `Params` takes them.
 use Rattle.lent.proofs.Params.{Data, struct, enum}
+use Rattle.looms.proofs.Answer as Answer
+use Rattle.looms.proofs.Answer.Laws as Answer′
 use Rattle.records.proofs.writing.WriteAnswer as WriteAnswer
 use Rattle.records.proofs.writing.WriteAnswer.Laws as WriteAnswer′
 use Rattle.records.proofs.reading.ReadAnswer as ReadAnswer
@@ -15,3 +17,6 @@ read-answer = enum ReadAnswer.the-type tt ReadAnswer′.the-laws ReadAnswer′.t
 
 abbrev pub read-array : Data
 read-array = struct ReadArray.the-type ReadArray′.the-laws ReadArray′.the-copy ReadArray′.the-plain
+
+abbrev pub answer : Data
+answer = enum Answer.the-type tt Answer′.the-laws Answer′.the-copy Answer′.the-plain

@@ -1,6 +1,9 @@
-// The record of a net over lent lists: `write` takes the segments from a lent list, and `read` lays them into one.
+// The entries over lent lists: "The segments stand as a lent list of records, two posts and a length each." `build` plans the net of a lent list, `write` takes
+// the segments of a record from one, and `read` lays them into one. Each is a crossing of the crate `lent` and the function over an array that does the work;
+// none asks anything of what is lent, and a list that is too long is refused with 4.
 use lent::gather;
 use lent::spread;
+use looms::Answer;
 use net::Head;
 use net::MOST_SEGMENTS;
 use net::Segment;
@@ -12,10 +15,32 @@ use records::writing::write_array;
 ghost use mathlib.Core.Path.{_≡_};
 ghost use lib.ListN.{length};
 ghost use Rattle.lent.specs.Lists.{netOn};
+ghost use Rattle.looms.specs.Answers.{Leaves};
 ghost use Rattle.records.specs.Reading.{netRead};
 ghost use Rattle.records.specs.Answers.{Writes};
 ghost use Rattle.droverboot.specs.Reading.{countOf, readAnswer, listRead};
 
+// Building: the trees' entries go into the three lent lists, and the answer has their lengths and radii and the count of laid paths, or the refusal.
+pub fn build(
+    head: Head,
+    segments: &[Segment],
+    lightest: &mut [u16],
+    shortest: &mut [u16],
+    between: &mut [u16],
+) -> Answer
+    ensures { λ r. ⌜ Leaves (netOn head (now (segments .entry))) (length (now (segments .entry))) (now (lightest .entry)) (now (shortest .entry)) (now (between .entry)) r (now (lightest .exit)) (now (shortest .exit)) (now (between .exit)) ⌝ }
+{
+    looms::build(
+        head,
+        gather(segments),
+        segments.len(),
+        lightest,
+        shortest,
+        between,
+    )
+}
+
+// Writing: the record goes to the front of the room, and bytes beyond it are unchanged; after a refusal the whole room is.
 pub fn write(head: Head, segments: &[Segment], room: &mut [u8]) -> WriteAnswer
     ensures { λ r. ⌜ Writes (netOn head (now (segments .entry))) (length (now (segments .entry))) (now (room .entry)) r (now (room .exit)) ⌝ }
 {
@@ -33,18 +58,21 @@ fn count_of(r: ReadArray) -> usize
     }
 }
 
+// The segments that were read, in the array's front.
 fn segments_of(r: ReadArray) -> [Segment; MOST_SEGMENTS]
     ensures { λ w. ⌜ w ≡ r .segments ⌝ }
 {
     r.segments
 }
 
+// The answer of reading.
 fn answer_of(r: ReadArray) -> ReadAnswer
     ensures { λ a. ⌜ a ≡ r .answer ⌝ }
 {
     r.answer
 }
 
+// Reading: the segments of a good record go to the front of the lent list, and those beyond are unchanged; after a refusal the whole list is.
 pub fn read(bytes: &[u8], segments: &mut [Segment]) -> ReadAnswer
     ensures { λ r. ⌜ (r ≡ readAnswer (netRead (now (bytes .entry)) (length (now (segments .entry))) 0)) × (now (segments .exit) ≡ listRead (netRead (now (bytes .entry)) (length (now (segments .entry))) 0) (now (segments .entry))) ⌝ }
 {

@@ -368,10 +368,7 @@ pub fn build(
     shortest: &mut [u16],
     between: &mut [u16],
 ) -> Answer
-    ensures { λ r. ⌜ r ≡ answerOf (buildOf every (netOf head count segments) count (lentOf (now (lightest .entry)) (now (shortest .entry)) (now (between .entry)))) ⌝ }
-    ensures { λ _. ⌜ now (lightest .exit) ≡ afterBuild every (netOf head count segments) count (lentOf (now (lightest .entry)) (now (shortest .entry)) (now (between .entry))) Lightest (now (lightest .entry)) ⌝ }
-    ensures { λ _. ⌜ now (shortest .exit) ≡ afterBuild every (netOf head count segments) count (lentOf (now (lightest .entry)) (now (shortest .entry)) (now (between .entry))) Shortest (now (shortest .entry)) ⌝ }
-    ensures { λ _. ⌜ now (between .exit) ≡ afterBuild every (netOf head count segments) count (lentOf (now (lightest .entry)) (now (shortest .entry)) (now (between .entry))) Between (now (between .entry)) ⌝ }
+    ensures { λ r. ⌜ Leaves (netOf head count segments) count (now (lightest .entry)) (now (shortest .entry)) (now (between .entry)) r (now (lightest .exit)) (now (shortest .exit)) (now (between .exit)) ⌝ }
 {
     let says = net::check_head(head, count);
     if let Checked::Refused(r) = says {

@@ -22,7 +22,7 @@ enum-known-says c = search needs
 
 -- src/lib.rt:368:9
 returns : tie.Need-returns
-returns c = let a = c .before .before .before .before .before .before .before .args in let z = leaves-head (netOf (a .head) (a .count) (a .segments)) (a .count) (a .lightest .now) (a .shortest .now) (a .between .now) (c .before .before .before .check-head .ensures) (c .before .says .given .1) in (z .answer, (z .lightest, (z .shortest, z .between)))
+returns c = let a = c .before .before .before .before .before .before .before .args in leaves-head (netOf (a .head) (a .count) (a .segments)) (a .count) (a .lightest .now) (a .shortest .now) (a .between .now) (c .before .before .before .check-head .ensures) (c .before .says .given .1)
 
 enum-told : tie.Need-enum-told
 enum-told c = search needs
@@ -69,7 +69,7 @@ same-length-3 c = search needs
 
 -- src/lib.rt:353:1
 returns-2 : tie.Need-returns-2
-returns-2 c = let z = c .before .before .before .before .before .before .before .before .before .build-unpacked .ensures in (z .answer, (z .lightest, (z .shortest, z .between)))
+returns-2 c = c .before .before .before .before .before .before .before .before .before .build-unpacked .ensures
 
 pub build-spec : {M : Type 1} → statement M
 build-spec =

@@ -43,8 +43,8 @@ slice-aggregate-put-built-3 c = search needs
 
 -- src/main.rt:35:14
 put-built-requires : tie.Need-put-built-requires
-put-built-requires c κs = 
-    let few = built-few _ _ _ (c .before .before .before .before .before .before .before .before .before .before .build .ensures .0) (c .before .before .before .before .before .answer .given .1) in
+put-built-requires c κs =
+    let few = built-few _ _ _ (c .before .before .before .before .before .before .before .before .before .before .build .ensures .answer) (c .before .before .before .before .before .answer .given .1) in
     (few, ((omega (arith, c .before .before .before .before .before .before .before .before .before .before .build .kept), omega (arith, c .before .before .before .before .before .before .before .before .before .before .build .kept), omega (arith, c .before .before .before .before .before .before .before .before .before .before .build .kept)), omega arith))
 
 -- src/main.rt:39:25
