@@ -3,3 +3,6 @@ pub mod Unpacked
 pub mod Putting
 pub mod Ready
 pub mod Ways
+pub mod Margins
+pub mod Unique
+pub mod Meaning

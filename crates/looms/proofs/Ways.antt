@@ -30,6 +30,7 @@ use Rattle.shortest.proofs.Apart.{apart-none, apart-some}
 use Rattle.shortest.proofs.Measures.{short-segments}
 use Rattle.looms.specs.Ready.{netAt, Ready}
 use Rattle.looms.specs.Answers.{measuredIn, lentOf, Leaves, BuiltAll}
+use Rattle.looms.specs.declared.Measured.{Measured}
 use Rattle.looms.specs.declared.Answer.{Answer}
 use Rattle.looms.specs.declared.Answer.the-variants.{Built, Refused}
 use Rattle.looms.proofs.Ready.{ready-inside, ready-source, ready-posts, ready-short}
@@ -116,6 +117,10 @@ module _ (head : Head) (a b lengths l s w : List ℕ) where
         pub leaves-joined : posts ≤ apart → {x : Answer} {l′ s′ w′ : List ℕ} → BuiltAll (netAt head a b lengths) l s w x l′ s′ w′
             → Leaves (netAt head a b lengths) (length (segmentsOf a b lengths)) l s w x l′ s′ w′
         leaves-joined p y = leaves-built _ _ l s w (joined-left (table-joined r posts-is source-is rest e z p)) y
+
+-- an answer from three measures
+pub built-of : {x x′ y y′ z z′ : Measured} {laid : ℕ} → x ≡ x′ → y ≡ y′ → z ≡ z′ → Built x y z laid ≡ Built x′ y′ z′ laid
+built-of e f g = rw (e, f, g)
 
 -- THE ANSWER put together: the trees, what they measure, and the lists they are put into
 module _ (n : Net) {light short third : List ℕ} (light-is : light ≡ lightestOf every n) (short-is : short ≡ shortestOf every n) (third-is : third ≡ betweenOf every n) where

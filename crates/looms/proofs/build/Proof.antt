@@ -7,67 +7,49 @@ use native.Mathlib.Omega.{arith}
 use borrow.Author.Needs.{needs}
 use Rattle.looms.proofs.build.Statement.{statement}
 use Rattle.looms.proofs.build.Tie as tie
-use Rattle.looms.proofs.build.Reads as reads
-use Rattle.looms.proofs.build.Lts as lts
-use Rattle.looms.proofs.build_unpacked.Reads as build-unpacked-reads
-use Rattle.net.proofs.check_head.Reads as check-head-reads
 
--- src/lib.rt:366:9
 check-head-requires : tie.Need-check-head-requires
 check-head-requires c κs = search needs
 
--- src/lib.rt:367:29
 enum-known-says : tie.Need-enum-known-says
 enum-known-says c = search needs
 
--- src/lib.rt:368:9
 returns : tie.Need-returns
 returns c = let a = c .before .before .before .before .before .before .before .args in leaves-head (netOf (a .head) (a .count) (a .segments)) (a .count) (a .lightest .now) (a .shortest .now) (a .between .now) (c .before .before .before .check-head .ensures) (c .before .says .given .1)
 
 enum-told : tie.Need-enum-told
 enum-told c = search needs
 
--- src/lib.rt:377:9
 array-borrow-prefix-a : tie.Need-array-borrow-prefix-a
 array-borrow-prefix-a c = few-segments _ _ (c .before .before .check-head .ensures) (c .enum-told .given .1)
 
--- src/lib.rt:377:9
 slice-aggregate-build-unpacked : tie.Need-slice-aggregate-build-unpacked
 slice-aggregate-build-unpacked c = simp length-take (omega (arith, few-segments _ _ (c .before .before .before .check-head .ensures) (c .before .enum-told .given .1)))
 
--- src/lib.rt:378:9
 array-borrow-prefix-b : tie.Need-array-borrow-prefix-b
 array-borrow-prefix-b c = few-segments _ _ (c .before .before .before .check-head .ensures) (c .before .enum-told .given .1)
 
--- src/lib.rt:378:9
 slice-aggregate-build-unpacked-2 : tie.Need-slice-aggregate-build-unpacked-2
 slice-aggregate-build-unpacked-2 c = simp length-take (omega (arith, few-segments _ _ (c .before .before .before .before .check-head .ensures) (c .before .before .enum-told .given .1)))
 
--- src/lib.rt:379:9
 array-borrow-prefix-lengths : tie.Need-array-borrow-prefix-lengths
 array-borrow-prefix-lengths c = few-segments _ _ (c .before .before .before .before .check-head .ensures) (c .before .before .enum-told .given .1)
 
--- src/lib.rt:379:9
 slice-aggregate-build-unpacked-3 : tie.Need-slice-aggregate-build-unpacked-3
 slice-aggregate-build-unpacked-3 c = simp length-take (omega (arith, few-segments _ _ (c .before .before .before .before .before .check-head .ensures) (c .before .before .before .enum-told .given .1)))
 
--- src/lib.rt:373:5
 build-unpacked-requires : tie.Need-build-unpacked-requires
 build-unpacked-requires c κs = let k = few-segments _ _ (c .before .before .before .before .before .before .before .before .check-head .ensures) (c .before .before .before .before .before .before .enum-told .given .1) in (k, simp length-take (omega (arith, k)), simp length-take (omega (arith, k)), simp length-take (omega (arith, k)))
 
--- src/lib.rt:353:1
 same-length : tie.Need-same-length
-same-length c = search needs
+same-length c = omega arith
 
--- src/lib.rt:353:1
 same-length-2 : tie.Need-same-length-2
-same-length-2 c = search needs
+same-length-2 c = omega arith
 
--- src/lib.rt:353:1
 same-length-3 : tie.Need-same-length-3
-same-length-3 c = search needs
+same-length-3 c = omega arith
 
--- src/lib.rt:353:1
 returns-2 : tie.Need-returns-2
 returns-2 c = c .before .before .before .before .before .before .before .before .before .build-unpacked .ensures
 

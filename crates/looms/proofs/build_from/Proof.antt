@@ -5,73 +5,52 @@ use native.Mathlib.Omega.{arith}
 use borrow.Author.Needs.{needs}
 use Rattle.looms.proofs.build_from.Statement.{statement}
 use Rattle.looms.proofs.build_from.Tie as tie
-use Rattle.looms.proofs.build_from.Reads as reads
-use Rattle.looms.proofs.build_from.Lts as lts
-use Rattle.looms.proofs.build_sound.Reads as build-sound-reads
-use Rattle.looms.proofs.index_of.Reads as index-of-reads
-use Rattle.looms.proofs.refuse.Reads as refuse-reads
-use Rattle.net.proofs.check.Reads as check-reads
 
--- src/lib.rt:315:9
 check-requires : tie.Need-check-requires
 check-requires c κs = search needs
 
--- src/lib.rt:316:29
 enum-known-says : tie.Need-enum-known-says
 enum-known-says c = search needs
 
--- src/lib.rt:317:9
 returns : tie.Need-returns
 returns c = let x = c .before .before .before .before .before .before .before .before .before .before .args in leaves-faulty (x .head) (x .a .now) (x .b .now) (x .lengths .now) (x .lightest .now) (x .shortest .now) (x .between .now) (c .before .before .before .check .ensures) (c .before .says .given .1)
 
 enum-told : tie.Need-enum-told
 enum-told c = search needs
 
--- src/lib.rt:319:9
 index-of-requires : tie.Need-index-of-requires
 index-of-requires c κs = search needs
 
--- src/lib.rt:321:9
 refuse-requires : tie.Need-refuse-requires
-refuse-requires c κs = search needs
+refuse-requires c κs = omega arith
 
--- src/lib.rt:321:9
 returns-2 : tie.Need-returns-2
 returns-2 c = let p = c .before .before .before .before .before .before .before .before .before .before .before .before .pre in let x = c .before .before .before .before .before .before .before .before .before .before .before .before .args in leaves-short (x .head) (x .a .now) (x .b .now) (x .lengths .now) (x .lightest .now) (x .shortest .now) (x .between .now) (ready-sound _ _ _ _ (p .0) (p .1) (c .before .before .before .before .before .check .ensures) (c .before .before .before .enum-told .given .1)) (inl (omega arith)) (c .refuse .ensures)
 
--- src/lib.rt:324:9
 refuse-requires-2 : tie.Need-refuse-requires-2
-refuse-requires-2 c κs = search needs
+refuse-requires-2 c κs = omega arith
 
--- src/lib.rt:324:9
 returns-3 : tie.Need-returns-3
 returns-3 c = let p = c .before .before .before .before .before .before .before .before .before .before .before .before .before .pre in let x = c .before .before .before .before .before .before .before .before .before .before .before .before .before .args in leaves-short (x .head) (x .a .now) (x .b .now) (x .lengths .now) (x .lightest .now) (x .shortest .now) (x .between .now) (ready-sound _ _ _ _ (p .0) (p .1) (c .before .before .before .before .before .before .check .ensures) (c .before .before .before .before .enum-told .given .1)) (inr (inl (omega arith))) (c .refuse2 .ensures)
 
--- src/lib.rt:327:9
 refuse-requires-3 : tie.Need-refuse-requires-3
-refuse-requires-3 c κs = search needs
+refuse-requires-3 c κs = omega arith
 
--- src/lib.rt:327:9
 returns-4 : tie.Need-returns-4
 returns-4 c = let p = c .before .before .before .before .before .before .before .before .before .before .before .before .before .before .pre in let x = c .before .before .before .before .before .before .before .before .before .before .before .before .before .before .args in leaves-short (x .head) (x .a .now) (x .b .now) (x .lengths .now) (x .lightest .now) (x .shortest .now) (x .between .now) (ready-sound _ _ _ _ (p .0) (p .1) (c .before .before .before .before .before .before .before .check .ensures) (c .before .before .before .before .before .enum-told .given .1)) (inr (inr (omega arith))) (c .refuse3 .ensures)
 
--- src/lib.rt:329:5
 build-sound-requires : tie.Need-build-sound-requires
 build-sound-requires c κs = let p = c .before .before .before .before .before .before .before .before .before .before .before .before .before .before .before .before .pre in (ready-sound _ _ _ _ (p .0) (p .1) (c .before .before .before .before .before .before .before .before .before .check .ensures) (c .before .before .before .before .before .before .before .enum-told .given .1), (omega arith, omega arith, omega arith))
 
--- src/lib.rt:303:1
 same-length : tie.Need-same-length
-same-length c = search needs
+same-length c = omega arith
 
--- src/lib.rt:303:1
 same-length-2 : tie.Need-same-length-2
-same-length-2 c = search needs
+same-length-2 c = omega arith
 
--- src/lib.rt:303:1
 same-length-3 : tie.Need-same-length-3
-same-length-3 c = search needs
+same-length-3 c = omega arith
 
--- src/lib.rt:303:1
 returns-5 : tie.Need-returns-5
 returns-5 c = c .before .before .before .before .before .before .build-sound .ensures
 

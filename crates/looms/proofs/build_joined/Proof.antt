@@ -2,53 +2,36 @@
 use mathlib.Core.Path.{_∙_}
 use Rattle.looms.proofs.Ways.{built-all}
 use native.Mathlib.Omega.{arith}
-use borrow.Author.Needs.{needs}
 use Rattle.looms.proofs.build_joined.Statement.{statement}
 use Rattle.looms.proofs.build_joined.Tie as tie
-use Rattle.looms.proofs.build_joined.Reads as reads
-use Rattle.looms.proofs.build_joined.Lts as lts
-use Rattle.looms.proofs.answer_for.Reads as answer-for-reads
-use Rattle.looms.proofs.lightest_tree.Reads as lightest-tree-reads
-use Rattle.looms.proofs.put_all.Reads as put-all-reads
-use Rattle.looms.proofs.third_tree.Reads as third-tree-reads
 
--- src/lib.rt:210:5
 lightest-tree-requires : tie.Need-lightest-tree-requires
 lightest-tree-requires c κs = let p = c .before .before .before .before .before .before .before .before .before .before .before .pre in (p .0 .0, p .1 .0 .1)
 
--- src/lib.rt:211:9
 third-tree-requires : tie.Need-third-tree-requires
 third-tree-requires c κs = let p = c .before .before .before .before .before .before .before .before .before .before .before .before .before .before .before .before .pre in ((p .0 .0, p .1 .0 .2), (p .0 .1, c .before .before .before .before .lightest-tree .ensures))
 
--- src/lib.rt:212:5
 put-all-requires : tie.Need-put-all-requires
 put-all-requires c κs = let p = c .before .before .before .before .before .before .before .before .before .before .before .before .before .before .before .before .before .before .before .before .before .before .before .before .pre .1 in let e = c .before .before .before .before .before .before .before .before .before .before .before .before .lightest-tree .kept .1 .1 .1 .1 .0 in let f = c .before .before .before .before .before .before .before .third-tree .kept .1 .1 .1 .1 .1 .1 .1 .0 in (omega (arith, e, p .0 .1, p .1 .0), omega (arith, p .0 .0, p .1 .1), omega (arith, f, p .0 .2, p .1 .2))
 
--- src/lib.rt:213:5
 answer-for-requires : tie.Need-answer-for-requires
 answer-for-requires c κs = let p = c .before .before .before .before .before .before .before .before .before .before .before .before .before .before .before .before .before .before .before .before .before .before .before .before .before .before .before .before .before .before .before .before .before .pre in (p .0 .0, c .before .before .before .before .before .before .before .before .before .before .before .before .before .before .before .before .before .before .before .before .before .lightest-tree .kept .1 .1 .1 .1 .0 ∙ p .1 .0 .1, p .1 .0 .0, c .before .before .before .before .before .before .before .before .before .before .before .before .before .before .before .before .third-tree .kept .1 .1 .1 .1 .1 .1 .1 .0 ∙ p .1 .0 .2)
 
--- src/lib.rt:192:1
 same-length : tie.Need-same-length
-same-length c = search needs
+same-length c = omega arith
 
--- src/lib.rt:192:1
 same-length-2 : tie.Need-same-length-2
-same-length-2 c = search needs
+same-length-2 c = omega arith
 
--- src/lib.rt:192:1
 same-length-3 : tie.Need-same-length-3
-same-length-3 c = search needs
+same-length-3 c = omega arith
 
--- src/lib.rt:192:1
 same-length-4 : tie.Need-same-length-4
-same-length-4 c = search needs
+same-length-4 c = omega arith
 
--- src/lib.rt:192:1
 same-length-5 : tie.Need-same-length-5
-same-length-5 c = search needs
+same-length-5 c = omega arith
 
--- src/lib.rt:192:1
 returns : tie.Need-returns
 returns c = let p = c .before .before .before .before .before .before .before .before .before .before .before .before .before .before .before .before .before .before .before .before .before .before .before .before .before .before .before .before .before .before .before .before .before .before .pre in let a = c .before .before .before .before .before .before .before .before .before .before .before .before .before .before .before .before .before .before .before .before .before .before .before .before .before .before .before .before .before .before .before .before .before .before .args in let t = c .before .before .before .before .before .before .before .before .before .before .before .before .before .before .before .before .before .third-tree in let l = c .before .before .before .before .before .before .before .before .before .before .before .before .before .before .before .before .before .before .before .before .before .before .lightest-tree in let q = c .before .before .before .before .before .before .before .before .before .put-all .ensures in built-all _ (l .ensures) (p .0 .1 .tree-is) (t .ensures .1) (a .lightest .now) (a .shortest .now) (a .between .now) (c .answer-for .ensures) (t .ensures .0) (l .kept .1 .1 .1 .1 .0 ∙ p .1 .0 .1) (p .1 .0 .0) (t .kept .1 .1 .1 .1 .1 .1 .1 .0 ∙ p .1 .0 .2) (q .0) (q .1 .0) (q .1 .1)
 

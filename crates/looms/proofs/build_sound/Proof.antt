@@ -5,64 +5,46 @@ use native.Mathlib.Omega.{arith}
 use borrow.Author.Needs.{needs}
 use Rattle.looms.proofs.build_sound.Statement.{statement}
 use Rattle.looms.proofs.build_sound.Tie as tie
-use Rattle.looms.proofs.build_sound.Reads as reads
-use Rattle.looms.proofs.build_sound.Lts as lts
-use Rattle.looms.proofs.build_in.Reads as build-in-reads
-use Rattle.looms.proofs.index_of.Reads as index-of-reads
 
--- src/lib.rt:282:9
 index-of-requires : tie.Need-index-of-requires
 index-of-requires c κs = search needs
 
--- src/lib.rt:292:9
 array-borrow-prefix-dist : tie.Need-array-borrow-prefix-dist
 array-borrow-prefix-dist c = omega (arith, ready-posts (c .before .before .before .before .before .before .before .pre .0))
 
--- src/lib.rt:292:9
 slice-aggregate-build-in : tie.Need-slice-aggregate-build-in
 slice-aggregate-build-in c = simp length-take (omega (arith, ready-posts (c .before .before .before .before .before .before .before .before .pre .0)))
 
--- src/lib.rt:293:9
 array-borrow-prefix-short : tie.Need-array-borrow-prefix-short
 array-borrow-prefix-short c = omega (arith, ready-posts (c .before .before .before .before .before .before .before .before .pre .0))
 
--- src/lib.rt:293:9
 slice-aggregate-build-in-2 : tie.Need-slice-aggregate-build-in-2
 slice-aggregate-build-in-2 c = simp length-take (omega (arith, ready-posts (c .before .before .before .before .before .before .before .before .before .pre .0)))
 
--- src/lib.rt:294:9
 array-borrow-prefix-light : tie.Need-array-borrow-prefix-light
 array-borrow-prefix-light c = omega (arith, ready-posts (c .before .before .before .before .before .before .before .before .before .pre .0))
 
--- src/lib.rt:294:9
 slice-aggregate-build-in-3 : tie.Need-slice-aggregate-build-in-3
 slice-aggregate-build-in-3 c = simp length-take (omega (arith, ready-posts (c .before .before .before .before .before .before .before .before .before .before .pre .0)))
 
--- src/lib.rt:295:9
 array-borrow-prefix-third : tie.Need-array-borrow-prefix-third
 array-borrow-prefix-third c = omega (arith, ready-posts (c .before .before .before .before .before .before .before .before .before .before .pre .0))
 
--- src/lib.rt:295:9
 slice-aggregate-build-in-4 : tie.Need-slice-aggregate-build-in-4
 slice-aggregate-build-in-4 c = simp length-take (omega (arith, ready-posts (c .before .before .before .before .before .before .before .before .before .before .before .pre .0)))
 
--- src/lib.rt:287:5
 build-in-requires : tie.Need-build-in-requires
 build-in-requires c κs = let p = c .before .before .before .before .before .before .before .before .before .before .before .before .before .before .pre in let e = c .before .before .before .before .before .before .before .index-of .ensures in let k = ready-posts (p .0) in (p .0, ((simp length-take (omega (arith, k, e)), simp length-take (omega (arith, k, e)), simp length-take (omega (arith, k, e)), simp length-take (omega (arith, k, e))), p .1))
 
--- src/lib.rt:269:1
 same-length : tie.Need-same-length
-same-length c = search needs
+same-length c = omega arith
 
--- src/lib.rt:269:1
 same-length-2 : tie.Need-same-length-2
-same-length-2 c = search needs
+same-length-2 c = omega arith
 
--- src/lib.rt:269:1
 same-length-3 : tie.Need-same-length-3
-same-length-3 c = search needs
+same-length-3 c = omega arith
 
--- src/lib.rt:269:1
 returns : tie.Need-returns
 returns c = c .before .before .before .before .before .before .before .before .before .before .build-in .ensures
 

@@ -2,47 +2,33 @@
 use mathlib.Core.Path.{_∙_}
 use Rattle.looms.proofs.Ways.{leaves-array}
 use native.Mathlib.Omega.{arith}
-use borrow.Author.Needs.{needs}
 use Rattle.looms.proofs.build_unpacked.Statement.{statement}
 use Rattle.looms.proofs.build_unpacked.Tie as tie
-use Rattle.looms.proofs.build_unpacked.Reads as reads
-use Rattle.looms.proofs.build_unpacked.Lts as lts
-use Rattle.looms.proofs.build_from.Reads as build-from-reads
-use Rattle.looms.proofs.unpack.Reads as unpack-reads
 
--- src/lib.rt:347:5
 unpack-requires : tie.Need-unpack-requires
-unpack-requires c κs = search needs
+unpack-requires c κs = omega arith
 
--- src/lib.rt:348:5
 build-from-requires : tie.Need-build-from-requires
-build-from-requires c κs = search needs
+build-from-requires c κs = omega arith
 
--- src/lib.rt:333:1
 same-length : tie.Need-same-length
-same-length c = search needs
+same-length c = omega arith
 
--- src/lib.rt:333:1
 same-length-2 : tie.Need-same-length-2
-same-length-2 c = search needs
+same-length-2 c = omega arith
 
--- src/lib.rt:333:1
 same-length-3 : tie.Need-same-length-3
-same-length-3 c = search needs
+same-length-3 c = omega arith
 
--- src/lib.rt:333:1
 same-length-4 : tie.Need-same-length-4
-same-length-4 c = search needs
+same-length-4 c = omega arith
 
--- src/lib.rt:333:1
 same-length-5 : tie.Need-same-length-5
-same-length-5 c = search needs
+same-length-5 c = omega arith
 
--- src/lib.rt:333:1
 same-length-6 : tie.Need-same-length-6
-same-length-6 c = search needs
+same-length-6 c = omega arith
 
--- src/lib.rt:333:1
 returns : tie.Need-returns
 returns c = let p = c .before .before .before .before .before .before .before .before .before .before .before .before .before .before .before .before .before .before .before .before .before .before .before .before .before .before .before .before .before .pre in let u = c .before .before .before .before .before .before .before .before .before .before .before .before .before .before .before .before .before .before .before .unpack in leaves-array _ _ _ (u .last .1 .1 .0) (u .last .1 .1 .1 .0) (u .last .1 .1 .1 .1 .0) (u .ensures) (u .kept .1 .1 .0 ∙ p .1) (u .kept .1 .1 .1 .0 ∙ p .2) (u .kept .1 .1 .1 .1 .0 ∙ p .3) (c .before .before .before .before .before .before .build-from .ensures)
 

@@ -4,37 +4,25 @@ use native.Mathlib.Omega.{arith}
 use borrow.Author.Needs.{needs}
 use Rattle.looms.proofs.lightest_by.Statement.{statement}
 use Rattle.looms.proofs.lightest_by.Tie as tie
-use Rattle.looms.proofs.lightest_by.Reads as reads
-use Rattle.looms.proofs.lightest_by.Lts as lts
-use Rattle.lightest.proofs.belonging.Reads as belonging-reads
-use Rattle.looms.proofs.index_of.Reads as index-of-reads
-use Rattle.shortest.proofs.hang_from.Reads as hang-from-reads
 
--- src/lib.rt:80:9
 index-of-requires : tie.Need-index-of-requires
 index-of-requires c κs = search needs
 
--- src/lib.rt:81:9
 index-of-requires-2 : tie.Need-index-of-requires-2
 index-of-requires-2 c κs = search needs
 
--- src/lib.rt:82:5
 belonging-requires : tie.Need-belonging-requires
 belonging-requires c κs = let p = c .before .before .before .before .before .before .before .before .before .pre in (fit-at (p .0) (c .before .before .index-of .ensures) (p .1), (omega (arith, ready-posts (p .0)), omega (arith, ready-few (p .0), p .0 .lengths-level), omega (arith, p .0 .lengths-level)))
 
--- src/lib.rt:83:5
 hang-from-requires : tie.Need-hang-from-requires
 hang-from-requires c κs = let p = c .before .before .before .before .before .before .before .before .before .before .before .before .before .before .pre in (ends-at (p .0) (c .before .before .before .before .before .before .before .index-of .ensures), (omega (arith, ready-source (p .0)), omega (arith, ready-posts (p .0)), omega arith, omega arith))
 
--- src/lib.rt:68:1
 same-length : tie.Need-same-length
-same-length c = search needs
+same-length c = omega arith
 
--- src/lib.rt:68:1
 same-length-2 : tie.Need-same-length-2
-same-length-2 c = search needs
+same-length-2 c = omega arith
 
--- src/lib.rt:68:1
 returns : tie.Need-returns
 returns c = let p = c .before .before .before .before .before .before .before .before .before .before .before .before .before .before .before .before .before .pre in lightest-hung (p .0) (c .before .before .before .before .before .before .before .before .before .before .index-of .ensures) (c .before .before .before .before .before .before .before .before .before .index-of2 .ensures) _ (c .before .before .before .before .before .before .before .before .before .before .before .before .before .before .before .before .before .args .tree .now) (p .1) (p .3) (c .before .before .before .before .before .before .before .belonging .ensures) (c .before .before .hang-from .ensures _ (p .0 .lengths-level))
 

@@ -2,38 +2,27 @@
 use lib.ListN.{length-take}
 use Rattle.looms.proofs.Ready.{ready-few, all-there}
 use native.Mathlib.Omega.{arith}
-use borrow.Author.Needs.{needs}
 use Rattle.looms.proofs.lightest_tree.Statement.{statement}
 use Rattle.looms.proofs.lightest_tree.Tie as tie
-use Rattle.looms.proofs.lightest_tree.Reads as reads
-use Rattle.looms.proofs.lightest_tree.Lts as lts
-use Rattle.looms.proofs.lightest_by.Reads as lightest-by-reads
 
--- src/lib.rt:94:38
 array-share-prefix-present : tie.Need-array-share-prefix-present
 array-share-prefix-present c = omega (arith, ready-few (c .before .before .before .before .pre .0))
 
--- src/lib.rt:94:38
 slice-aggregate-lightest-by : tie.Need-slice-aggregate-lightest-by
 slice-aggregate-lightest-by c = simp length-take (omega (arith, ready-few (c .before .before .before .before .before .pre .0)))
 
--- src/lib.rt:94:53
 array-borrow-prefix-marks : tie.Need-array-borrow-prefix-marks
 array-borrow-prefix-marks c = omega (arith, ready-few (c .before .before .before .before .before .pre .0))
 
--- src/lib.rt:94:53
 slice-aggregate-lightest-by-2 : tie.Need-slice-aggregate-lightest-by-2
 slice-aggregate-lightest-by-2 c = simp length-take (omega (arith, ready-few (c .before .before .before .before .before .before .pre .0)))
 
--- src/lib.rt:94:5
 lightest-by-requires : tie.Need-lightest-by-requires
 lightest-by-requires c κs = let p = c .before .before .before .before .before .before .before .pre in (p .0, all-there _ (ready-few (p .0)), simp length-take (omega (arith, ready-few (p .0))), p .1)
 
--- src/lib.rt:87:1
 same-length : tie.Need-same-length
-same-length c = search needs
+same-length c = omega arith
 
--- src/lib.rt:87:1
 returns : tie.Need-returns
 returns c = c .before .before .before .lightest-by .ensures
 

@@ -4,25 +4,16 @@ use native.Mathlib.Omega.{arith}
 use borrow.Author.Needs.{needs}
 use Rattle.looms.proofs.measure.Statement.{statement}
 use Rattle.looms.proofs.measure.Tie as tie
-use Rattle.looms.proofs.measure.Reads as reads
-use Rattle.looms.proofs.measure.Lts as lts
-use Rattle.looms.proofs.index_of.Reads as index-of-reads
-use Rattle.shortest.proofs.radius_of.Reads as radius-of-reads
-use Rattle.shortest.proofs.whole_of.Reads as whole-of-reads
 
--- src/lib.rt:135:9
 index-of-requires : tie.Need-index-of-requires
 index-of-requires c κs = search needs
 
--- src/lib.rt:136:9
 whole-of-requires : tie.Need-whole-of-requires
 whole-of-requires c κs = let p = c .before .before .before .before .before .pre in ((omega (arith, ready-posts (p .0)), omega arith, omega (arith, ready-few (p .0), p .0 .lengths-level)), ready-short (p .0))
 
--- src/lib.rt:137:9
 radius-of-requires : tie.Need-radius-of-requires
 radius-of-requires c κs = let p = c .before .before .before .before .before .before .pre in ((omega (arith, ready-posts (p .0)), omega arith, p .0 .b-level, p .0 .lengths-level), ready-short (p .0))
 
--- src/lib.rt:131:1
 returns : tie.Need-returns
 returns c = let p = c .before .before .before .before .before .before .before .pre in measured-at (p .0) (c .before .before .index-of .ensures) _ (p .1) (c .before .whole-of .ensures) (c .radius-of .ensures)
 

@@ -2,12 +2,9 @@
 use Prim.Native.Nat.{_-_}
 use lib.ListN.{length}
 use Rattle.looms.proofs.Putting.{Put, put-none, put-more, put-all}
-use borrow.Author.Needs.{needs}
 use native.Mathlib.Omega.{arith}
 use Rattle.looms.proofs.put.Statement.{statement}
 use Rattle.looms.proofs.put.Tie as tie
-use Rattle.looms.proofs.put.Reads as reads
-use Rattle.looms.proofs.put.Lts as lts
 
 abbrev Inv-loop : tie.InvT-loop
 Inv-loop tree list₀ i₀ list i = Put tree list₀ list i
@@ -15,43 +12,33 @@ Inv-loop tree list₀ i₀ list i = Put tree list₀ list i
 abbrev μ-loop : tie.MeasureT-loop
 μ-loop tree list₀ i₀ list i = length tree - i
 
--- src/lib.rt:147:5
 loop-holds : tie.Need-loop-holds Inv-loop μ-loop
 loop-holds c = put-none _ _ (c .pre)
 
--- src/lib.rt:148:19
 mul-list : tie.Need-mul-list Inv-loop μ-loop
 mul-list c = omega arith
 
--- src/lib.rt:148:19
 shared-slice-read-list : tie.Need-shared-slice-read-list Inv-loop μ-loop
 shared-slice-read-list c = omega arith
 
--- src/lib.rt:148:9
 mul-list-2 : tie.Need-mul-list-2 Inv-loop μ-loop
 mul-list-2 c = omega arith
 
--- src/lib.rt:148:9
 slice-write-list : tie.Need-slice-write-list Inv-loop μ-loop
 slice-write-list c = omega arith
 
--- src/lib.rt:149:9
 add-i : tie.Need-add-i Inv-loop μ-loop
 add-i c = omega arith
 
--- src/lib.rt:147:5
 loop-less : tie.Need-loop-less Inv-loop μ-loop
 loop-less c = omega arith
 
--- src/lib.rt:147:5
 loop-again : tie.Need-loop-again Inv-loop μ-loop
 loop-again c = put-more (c .before .before .loop .inv) (omega arith)
 
--- src/lib.rt:142:1
 same-length : tie.Need-same-length Inv-loop μ-loop
 same-length c = c .before .loop .inv .same
 
--- src/lib.rt:142:1
 returns : tie.Need-returns Inv-loop μ-loop
 returns c = put-all (c .before .loop .inv) (omega arith)
 

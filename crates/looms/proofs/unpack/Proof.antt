@@ -2,12 +2,9 @@ use mathlib.Core.Path.{refl}
 use Prim.Native.Nat.{_-_}
 use Rattle.net.specs.Net.{segmentAt}
 use Rattle.looms.proofs.Unpacked.{Unpacked, unpacked-none, unpacked-more, unpacked-all}
-use borrow.Author.Needs.{needs}
 use native.Mathlib.Omega.{arith}
 use Rattle.looms.proofs.unpack.Statement.{statement}
 use Rattle.looms.proofs.unpack.Tie as tie
-use Rattle.looms.proofs.unpack.Reads as reads
-use Rattle.looms.proofs.unpack.Lts as lts
 
 abbrev Inv-loop : tie.InvT-loop
 Inv-loop count a₀ b₀ lengths₀ segments i₀ a b lengths i = Unpacked segments count a b lengths i
@@ -15,67 +12,51 @@ Inv-loop count a₀ b₀ lengths₀ segments i₀ a b lengths i = Unpacked segme
 abbrev μ-loop : tie.MeasureT-loop
 μ-loop count a₀ b₀ lengths₀ segments i₀ a b lengths i = count - i
 
--- src/lib.rt:14:5
 loop-holds : tie.Need-loop-holds Inv-loop μ-loop
 loop-holds c = unpacked-none _ _ _ _ _ (c .pre .1) (c .pre .2) (c .pre .3)
 
--- src/lib.rt:15:17
 mul-s : tie.Need-mul-s Inv-loop μ-loop
 mul-s c = omega arith
 
--- src/lib.rt:15:17
 array-copy-out-s : tie.Need-array-copy-out-s Inv-loop μ-loop
 array-copy-out-s c = omega arith
 
--- src/lib.rt:16:9
 mul-a : tie.Need-mul-a Inv-loop μ-loop
 mul-a c = omega arith
 
--- src/lib.rt:16:9
 slice-write-a : tie.Need-slice-write-a Inv-loop μ-loop
 slice-write-a c = omega arith
 
--- src/lib.rt:17:9
 mul-b : tie.Need-mul-b Inv-loop μ-loop
 mul-b c = omega arith
 
--- src/lib.rt:17:9
 slice-write-b : tie.Need-slice-write-b Inv-loop μ-loop
 slice-write-b c = omega arith
 
--- src/lib.rt:18:9
 mul-lengths : tie.Need-mul-lengths Inv-loop μ-loop
 mul-lengths c = omega arith
 
--- src/lib.rt:18:9
 slice-write-lengths : tie.Need-slice-write-lengths Inv-loop μ-loop
 slice-write-lengths c = omega arith
 
--- src/lib.rt:19:9
 add-i : tie.Need-add-i Inv-loop μ-loop
 add-i c = omega arith
 
--- src/lib.rt:14:5
 loop-less : tie.Need-loop-less Inv-loop μ-loop
 loop-less c = omega arith
 
--- src/lib.rt:14:5
 loop-again : tie.Need-loop-again Inv-loop μ-loop
 loop-again c = unpacked-more (c .before .before .loop .inv) (omega arith) (segmentAt (c .before .before .before .args .t1) (c .before .before .loop .i)) refl
 
--- src/lib.rt:9:1
 same-length : tie.Need-same-length Inv-loop μ-loop
-same-length c = search needs
+same-length c = omega arith
 
--- src/lib.rt:9:1
 same-length-2 : tie.Need-same-length-2 Inv-loop μ-loop
-same-length-2 c = search needs
+same-length-2 c = omega arith
 
--- src/lib.rt:9:1
 same-length-3 : tie.Need-same-length-3 Inv-loop μ-loop
-same-length-3 c = search needs
+same-length-3 c = omega arith
 
--- src/lib.rt:9:1
 returns : tie.Need-returns Inv-loop μ-loop
 returns c = unpacked-all (c .before .loop .inv) (omega arith) (omega (arith, c .before .before .good .0 .1 .0 .1))
 
