@@ -1,5 +1,10 @@
 -- The entries' plain types, as lent's `Params` takes them.
-use Rattle.lent.proofs.Params.{Data, struct, enum}
+use Rattle.lent.proofs.Params.{Data, number, struct, enum}
+use mir.Syntax.{w32}
+use Rattle.net.proofs.Tree as Tree
+use Rattle.net.proofs.Tree.Laws as Tree′
+use Rattle.looms.proofs.MarginAnswer as MarginAnswer
+use Rattle.looms.proofs.MarginAnswer.Laws as MarginAnswer′
 use Rattle.looms.proofs.Answer as Answer
 use Rattle.looms.proofs.Answer.Laws as Answer′
 use Rattle.records.proofs.writing.WriteAnswer as WriteAnswer
@@ -20,3 +25,12 @@ read-array = struct ReadArray.the-type ReadArray′.the-laws ReadArray′.the-co
 
 abbrev pub answer : Data
 answer = enum Answer.the-type tt Answer′.the-laws Answer′.the-copy Answer′.the-plain
+
+abbrev pub u32 : Data
+u32 = number w32
+
+abbrev pub tree : Data
+tree = enum Tree.the-type tt Tree′.the-laws Tree′.the-copy Tree′.the-plain
+
+abbrev pub margin-answer : Data
+margin-answer = enum MarginAnswer.the-type tt MarginAnswer′.the-laws MarginAnswer′.the-copy MarginAnswer′.the-plain

@@ -4,9 +4,11 @@
 use lent::gather;
 use lent::spread;
 use looms::Answer;
+use looms::MarginAnswer;
 use net::Head;
 use net::MOST_SEGMENTS;
 use net::Segment;
+use net::Tree;
 use records::reading::ReadAnswer;
 use records::reading::ReadArray;
 use records::reading::read_array;
@@ -15,7 +17,9 @@ use records::writing::write_array;
 ghost use mathlib.Core.Path.{_≡_};
 ghost use lib.ListN.{length};
 ghost use Rattle.lent.specs.Lists.{netOn};
-ghost use Rattle.looms.specs.Answers.{Leaves};
+ghost use Rattle.net.specs.Net.{every};
+ghost use Rattle.net.specs.Building.{marginOf};
+ghost use Rattle.looms.specs.Answers.{Leaves, marginAnswerOf};
 ghost use Rattle.records.specs.Reading.{netRead};
 ghost use Rattle.records.specs.Answers.{Writes};
 ghost use Rattle.droverboot.specs.Reading.{countOf, readAnswer, listRead};
@@ -38,6 +42,13 @@ pub fn build(
         shortest,
         between,
     )
+}
+
+// The margin of a post in the named tree, worked out afresh, or the refusal. No list is lent but the segments.
+pub fn margin(head: Head, segments: &[Segment], tree: Tree, post: u32) -> MarginAnswer
+    ensures { λ r. ⌜ r ≡ marginAnswerOf (marginOf every (netOn head (now (segments .entry))) (length (now (segments .entry))) tree post) ⌝ }
+{
+    looms::margin(head, gather(segments), segments.len(), tree, post)
 }
 
 // Writing: the record goes to the front of the room, and bytes beyond it are unchanged; after a refusal the whole room is.
