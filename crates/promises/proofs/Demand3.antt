@@ -25,7 +25,7 @@ module _ (n : Net) (m : ℕ) (lent : Lent) (fits : length (n .segments) ≤ m) (
   small : AllOf (λ v. n .head .p * n .head .q ≤ n .head .p * n .head .q) ((walkWith every n (λ _. n .head .p) (λ _. n .head .q)) .laid)
   small = all-of (λ v. n .head .p * n .head .q ≤ n .head .p * n .head .q) (λ v. le-refl (n .head .p * n .head .q)) ((walkWith every n (λ _. n .head .p) (λ _. n .head .q)) .laid)
 
-  pub bounds : Bounds n
+  pub bounds : Bounds n (betweenOf every n)
   unfolding betweenOf laidOf walkOf
   bounds =
       record {

@@ -6,25 +6,25 @@ use mathlib.Core.List.{List}
 use Prim.Native.Nat.{ℕ, _+_, _*_, _≤_, _<_}
 use Rattle.net.specs.Net.{Net, every, lengthAt, Route, routeLength, weigh, setLength, JoinsAll, SpanningTree}
 use Rattle.net.specs.Trees.{at, IsLeast, IsTree, pathIn, whole}
-use Rattle.net.specs.Building.{lightestOf, leastLengthsOf, betweenOf, laidOf}
+use Rattle.net.specs.Building.{lightestOf, leastLengthsOf, laidOf}
 
--- of a net that building takes
-pub record Bounds (n : Net) : Type 0 where
+-- of a net that building takes, and of its third tree t
+pub record Bounds (n : Net) (t : List ℕ) : Type 0 where
   -- the third tree reaches every post: from each a climb of its path's length leads to the source
-  pub reaches : IsTree (n .segments) every (n .head .posts) (n .head .source) (betweenOf every n) (pathIn (n .segments) (n .head .posts) (betweenOf every n))
+  pub reaches : IsTree (n .segments) every (n .head .posts) (n .head .source) t (pathIn (n .segments) (n .head .posts) t)
   -- q × path ≤ (p + q) × the length of every route, the shortest among them
   pub paths : (v : ℕ) → v < n .head .posts → (is : List ℕ) → Route (n .segments) every (n .head .source) is v
-      → n .head .q * pathIn (n .segments) (n .head .posts) (betweenOf every n) v ≤ (n .head .p + n .head .q) * routeLength (n .segments) is
+      → n .head .q * pathIn (n .segments) (n .head .posts) t v ≤ (n .head .p + n .head .q) * routeLength (n .segments) is
   -- with p = 0 every path is as long as a shortest route
   pub no-slack : n .head .p ≡ 0 → (v : ℕ) → v < n .head .posts
-      → IsLeast (n .segments) every (lengthAt (n .segments)) (n .head .source) v (pathIn (n .segments) (n .head .posts) (betweenOf every n) v)
+      → IsLeast (n .segments) every (lengthAt (n .segments)) (n .head .source) v (pathIn (n .segments) (n .head .posts) t v)
   -- p × length ≤ (p + 2q) × the length of any segments that join all posts
   pub length-any : (U : ℕ → Bool) → JoinsAll (n .segments) every (n .head .posts) (n .head .source) U
-      → n .head .p * whole (n .segments) (n .head .posts) (betweenOf every n) ≤ (n .head .p + 2 * n .head .q) * setLength (n .segments) U
+      → n .head .p * whole (n .segments) (n .head .posts) t ≤ (n .head .p + 2 * n .head .q) * setLength (n .segments) U
   -- spanning trees of the net among them
   pub length-spanning : (U : ℕ → Bool) → SpanningTree (n .segments) every (n .head .posts) (n .head .source) U
-      → n .head .p * whole (n .segments) (n .head .posts) (betweenOf every n) ≤ (n .head .p + 2 * n .head .q) * setLength (n .segments) U
+      → n .head .p * whole (n .segments) (n .head .posts) t ≤ (n .head .p + 2 * n .head .q) * setLength (n .segments) U
   -- what carries it: length ≤ tree walked + the least lengths of the posts laid, and p × these ≤ 2q × the tree walked
-  pub laid-length : whole (n .segments) (n .head .posts) (betweenOf every n)
+  pub laid-length : whole (n .segments) (n .head .posts) t
       ≤ whole (n .segments) (n .head .posts) (lightestOf every n) + weigh (at (leastLengthsOf every n)) (laidOf every n)
   pub laid-sum : n .head .p * weigh (at (leastLengthsOf every n)) (laidOf every n) ≤ 2 * n .head .q * whole (n .segments) (n .head .posts) (lightestOf every n)
