@@ -2,3 +2,4 @@
 pub mod Types
 pub mod Laws
 pub mod Building
+pub mod Unique

@@ -1,10 +1,12 @@
 -- What reading a record into a lent list answers, and what the list holds afterwards. Relies on records' `netRead`.
+use mathlib.Core.Path.{_≡_}
 use mathlib.Core.List.{List, _++_}
 use Prim.Native.Nat.{ℕ}
 use lib.ListN.{length, drop}
 use Rattle.net.specs.Net.{Net}
 use Rattle.net.specs.declared.Segment.{Segment}
 use Rattle.records.specs.Numbers.{Got, got, refused}
+use Rattle.records.specs.Reading.{netRead}
 use Rattle.records.specs.declared.reading.ReadAnswer.{ReadAnswer}
 use Rattle.records.specs.declared.reading.ReadAnswer.the-variants.{Read, Refused}
 
@@ -22,3 +24,7 @@ readAnswer (refused r) = Refused r
 abbrev pub listRead : Got Net → List Segment → List Segment
 listRead (got n next) l = n .segments ++ drop (length (n .segments)) l
 listRead (refused r) l = l
+
+-- READING. Of the bytes of a record, and of a list that held l: the answer r, and what the list holds then
+abbrev pub Reads : List ℕ → List Segment → ReadAnswer → List Segment → Type 0
+Reads bytes l r l′ = (r ≡ readAnswer (netRead bytes (length l) 0)) × (l′ ≡ listRead (netRead bytes (length l) 0) l)

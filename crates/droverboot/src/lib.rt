@@ -20,9 +20,8 @@ ghost use Rattle.lent.specs.Lists.{netOn};
 ghost use Rattle.net.specs.Net.{every};
 ghost use Rattle.net.specs.Building.{marginOf};
 ghost use Rattle.looms.specs.Answers.{Leaves, marginAnswerOf};
-ghost use Rattle.records.specs.Reading.{netRead};
 ghost use Rattle.records.specs.Answers.{Writes};
-ghost use Rattle.droverboot.specs.Reading.{countOf, readAnswer, listRead};
+ghost use Rattle.droverboot.specs.Reading.{countOf, Reads};
 
 // Building: the trees' entries go into the three lent lists, and the answer has their lengths and radii and the count of laid paths, or the refusal.
 pub fn build(
@@ -85,7 +84,7 @@ fn answer_of(r: ReadArray) -> ReadAnswer
 
 // Reading: the segments of a good record go to the front of the lent list, and those beyond are unchanged; after a refusal the whole list is.
 pub fn read(bytes: &[u8], segments: &mut [Segment]) -> ReadAnswer
-    ensures { λ r. ⌜ (r ≡ readAnswer (netRead (now (bytes .entry)) (length (now (segments .entry))) 0)) × (now (segments .exit) ≡ listRead (netRead (now (bytes .entry)) (length (now (segments .entry))) 0) (now (segments .entry))) ⌝ }
+    ensures { λ r. ⌜ Reads (now (bytes .entry)) (now (segments .entry)) r (now (segments .exit)) ⌝ }
 {
     let r = read_array(bytes, segments.len());
     let n = count_of(r);
