@@ -1,5 +1,5 @@
 -- 1 to 7 of a net: the table of specs/Refusals gives them exactly where the rules of specs/Rules do (`net-faulty`, `net-sound`).
--- `gives-1` to `gives-7` say in the rules' words which line of the head or of one segment answers. Rests on reading a table from the top (Tables).
+-- So do the lines of a head and of one segment (`head-first`, `head-rule`, `segment-first`, `segment-rule`). Rests on reading a table from the top (Tables).
 use mathlib.Core.Path.{_≡_, refl, sym, _∙_}
 use mathlib.Core.Bool.{Bool, true, false, _||_}
 use mathlib.Core.Logic.{_⊎_, _↔_}
@@ -11,7 +11,8 @@ use lib.ListN.{length}
 use lib.Dec.{eqb, ltb, leb}
 use Rattle.net.specs.Net.{Net, mostPosts, mostSegments, longest, mostRatio, segmentAt}
 use Rattle.net.specs.Refusals.{refusal, Line, first, headLines, segmentLines, presentLines, allSegmentLines, netLines}
-use Rattle.net.specs.Rules.{PostsSound, HeadSound, EndsSound, SegmentSound, SoundTo, NetSound, Faulty, one, two, three, four, five, six, seven}
+use Rattle.net.specs.Rules.{PostsSound, HeadSound, EndsSound, SegmentSound, HeadRule, one, two, three, four, SegmentRule, five, six, seven, SoundTo, NetSound, Faulty}
+use Rattle.net.specs.Rules as R
 use Rattle.net.proofs.Tables.{FirstOf, end, here, below, first-only, first-is, InEither, in-first, in-second, in-either, some-append, none-append, LowestOf, nowhere, lowest-at, lowest-of, none-each, some-each, Tells, pass, fail, at-least, above, same, is-zero, one-of-two, one-of-three}
 use Rattle.net.specs.declared.Segment.{Segment}
 use Rattle.net.specs.declared.Head.{Head}
@@ -51,32 +52,37 @@ module _ (h : Head) where
   ratio-test : HeadSound h → (eqb (h .q) 0 || ltb mostRatio (h .p) || ltb mostRatio (h .q)) ≡ false
   ratio-test z = fail (tells-3 h) (z .some-q, z .small-p, z .small-q)
 
+  sound-by : (eqb (h .posts) 0 || ltb mostPosts (h .posts)) ≡ false → leb (h .posts) (h .source) ≡ false
+      → (eqb (h .q) 0 || ltb mostRatio (h .p) || ltb mostRatio (h .q)) ≡ false → HeadSound h
+  sound-by p q s =
+      let y = (tells-3 h) .fails s in
+      record { posts-sound = posts-sound ((tells-1 h) .fails p); source-in = (tells-2 h) .fails q; some-q = y .0; small-p = y .1; small-q = y .2 }
+
 module _ (h : Head) (m : ℕ) where
-  pub gives-1 : (h .posts ≡ 0) ⊎ (mostPosts < h .posts) → FirstOf (headLines h m) (some (refusal 1 0))
+  -- from the rules to the table
+  pub head-first : {r : Option Refusal} → HeadRule h m r → FirstOf (headLines h m) r
   unfolding headLines
-  gives-1 p = here (pass (tells-1 h) p)
+  head-first (one p) = here (pass (tells-1 h) p)
+  head-first (two z p) = below (posts-test h z) (here (pass (tells-2 h) p))
+  head-first (three z k p) = below (posts-test h z) (below (fail (tells-2 h) k) (here (pass (tells-3 h) p)))
+  head-first (four z p) = below (posts-test h (z .posts-sound)) (below (fail (tells-2 h) (z .source-in)) (below (ratio-test h z) (here (pass (tells-4 m) p))))
+  head-first (R.HeadRule.nothing z k) =
+      below (posts-test h (z .posts-sound)) (below (fail (tells-2 h) (z .source-in)) (below (ratio-test h z) (below (fail (tells-4 m) k) end)))
 
-  pub gives-2 : PostsSound h → h .posts ≤ h .source → FirstOf (headLines h m) (some (refusal 2 0))
+  -- and back
+  pub head-rule : {r : Option Refusal} → FirstOf (headLines h m) r → HeadRule h m r
   unfolding headLines
-  gives-2 z p = below (posts-test h z) (here (pass (tells-2 h) p))
-
-  pub gives-3 : PostsSound h → h .source < h .posts → (h .q ≡ 0) ⊎ ((mostRatio < h .p) ⊎ (mostRatio < h .q)) → FirstOf (headLines h m) (some (refusal 3 0))
-  unfolding headLines
-  gives-3 z k p = below (posts-test h z) (below (fail (tells-2 h) k) (here (pass (tells-3 h) p)))
-
-  pub gives-4 : HeadSound h → mostSegments < m → FirstOf (headLines h m) (some (refusal 4 0))
-  unfolding headLines
-  gives-4 z p = below (posts-test h (z .posts-sound)) (below (fail (tells-2 h) (z .source-in)) (below (ratio-test h z) (here (pass (tells-4 m) p))))
-
-  pub sound-head : HeadSound h → m ≤ mostSegments → FirstOf (headLines h m) none
-  unfolding headLines
-  sound-head z k = below (posts-test h (z .posts-sound)) (below (fail (tells-2 h) (z .source-in)) (below (ratio-test h z) (below (fail (tells-4 m) k) end)))
+  head-rule (here p) = one ((tells-1 h) .passes p)
+  head-rule (below p (here q)) = two (posts-sound h ((tells-1 h) .fails p)) ((tells-2 h) .passes q)
+  head-rule (below p (below q (here s))) = three (posts-sound h ((tells-1 h) .fails p)) ((tells-2 h) .fails q) ((tells-3 h) .passes s)
+  head-rule (below p (below q (below s (here t)))) = four (sound-by h p q s) ((tells-4 m) .passes t)
+  head-rule (below p (below q (below s (below t end)))) = R.HeadRule.nothing (sound-by h p q s) ((tells-4 m) .fails t)
 
   pub head-sound : FirstOf (headLines h m) none → HeadSound h × (m ≤ mostSegments)
-  unfolding headLines
-  head-sound (below p (below q (below s (below t end)))) =
-      let y = (tells-3 h) .fails s in
-      (record { posts-sound = posts-sound h ((tells-1 h) .fails p); source-in = (tells-2 h) .fails q; some-q = y .0; small-p = y .1; small-q = y .2 }, (tells-4 m) .fails t)
+  head-sound f = go (head-rule f)
+    where
+      go : HeadRule h m none → HeadSound h × (m ≤ mostSegments)
+      go (R.HeadRule.nothing z k) = (z, k)
 
 module _ (posts : ℕ) (s : Segment) where
   ends-sound : (s .a < posts) × (s .b < posts) → EndsSound posts s
@@ -86,27 +92,28 @@ module _ (posts : ℕ) (s : Segment) where
   ends-test z = fail (tells-5 posts s) (z .a-in, z .b-in)
 
 module _ (posts : ℕ) (s : Segment) (i : ℕ) where
-  pub gives-5 : (posts ≤ s .a) ⊎ (posts ≤ s .b) → FirstOf (segmentLines posts s i) (some (refusal 5 i))
+  pub segment-first : {r : Option Refusal} → SegmentRule posts s i r → FirstOf (segmentLines posts s i) r
   unfolding segmentLines
-  gives-5 p = here (pass (tells-5 posts s) p)
+  segment-first (five p) = here (pass (tells-5 posts s) p)
+  segment-first (six z p) = below (ends-test posts s z) (here (pass (tells-6 s) p))
+  segment-first (seven z k p) = below (ends-test posts s z) (below (fail (tells-6 s) k) (here (pass (tells-7 s) p)))
+  segment-first (R.SegmentRule.nothing z) =
+      below (ends-test posts s (z .ends-sound)) (below (fail (tells-6 s) (z .apart)) (below (fail (tells-7 s) (z .some-length, z .not-too-long)) end))
 
-  pub gives-6 : EndsSound posts s → s .a ≡ s .b → FirstOf (segmentLines posts s i) (some (refusal 6 i))
+  pub segment-rule : {r : Option Refusal} → FirstOf (segmentLines posts s i) r → SegmentRule posts s i r
   unfolding segmentLines
-  gives-6 z p = below (ends-test posts s z) (here (pass (tells-6 s) p))
-
-  pub gives-7 : EndsSound posts s → (s .a ≡ s .b → ⊥) → (s .length ≡ 0) ⊎ (longest < s .length) → FirstOf (segmentLines posts s i) (some (refusal 7 i))
-  unfolding segmentLines
-  gives-7 z k p = below (ends-test posts s z) (below (fail (tells-6 s) k) (here (pass (tells-7 s) p)))
-
-  pub sound-segment : SegmentSound posts s → FirstOf (segmentLines posts s i) none
-  unfolding segmentLines
-  sound-segment z = below (ends-test posts s (z .ends-sound)) (below (fail (tells-6 s) (z .apart)) (below (fail (tells-7 s) (z .some-length, z .not-too-long)) end))
+  segment-rule (here p) = five ((tells-5 posts s) .passes p)
+  segment-rule (below p (here q)) = six (ends-sound posts s ((tells-5 posts s) .fails p)) ((tells-6 s) .passes q)
+  segment-rule (below p (below q (here t))) = seven (ends-sound posts s ((tells-5 posts s) .fails p)) ((tells-6 s) .fails q) ((tells-7 s) .passes t)
+  segment-rule (below p (below q (below t end))) =
+      let y = (tells-7 s) .fails t in
+      R.SegmentRule.nothing (record { ends-sound = ends-sound posts s ((tells-5 posts s) .fails p); apart = (tells-6 s) .fails q; some-length = y .0; not-too-long = y .1 })
 
   pub segment-sound : FirstOf (segmentLines posts s i) none → SegmentSound posts s
-  unfolding segmentLines
-  segment-sound (below p (below q (below t end))) =
-      let y = (tells-7 s) .fails t in
-      record { ends-sound = ends-sound posts s ((tells-5 posts s) .fails p); apart = (tells-6 s) .fails q; some-length = y .0; not-too-long = y .1 }
+  segment-sound f = go (segment-rule f)
+    where
+      go : SegmentRule posts s i none → SegmentSound posts s
+      go (R.SegmentRule.nothing z) = z
 
 -- a segment that isn't there has no lines
 module _ {ls : List Line} where
@@ -133,31 +140,6 @@ abbrev linesAt : (ℕ → Bool) → Net → ℕ → List Line
 linesAt ok n i = presentLines (ok i) (segmentLines (n .head .posts) (segmentAt (n .segments) i) i)
 
 module _ (ok : ℕ → Bool) (m : ℕ) (n : Net) where
-  -- from the table to the rules
-  head-faulty : {r : Refusal} → FirstOf (headLines (n .head) m) (some r) → Faulty ok m n r
-  unfolding headLines
-  head-faulty (here p) = one ((tells-1 (n .head)) .passes p)
-  head-faulty (below p (here q)) = two (posts-sound (n .head) ((tells-1 (n .head)) .fails p)) ((tells-2 (n .head)) .passes q)
-  head-faulty (below p (below q (here s))) = three (posts-sound (n .head) ((tells-1 (n .head)) .fails p)) ((tells-2 (n .head)) .fails q) ((tells-3 (n .head)) .passes s)
-  head-faulty (below p (below q (below s (here t)))) =
-      let y = (tells-3 (n .head)) .fails s in
-      four
-      (record { posts-sound = posts-sound (n .head) ((tells-1 (n .head)) .fails p); source-in = (tells-2 (n .head)) .fails q; some-q = y .0; small-p = y .1; small-q = y .2 })
-      ((tells-4 m) .passes t)
-
-  segment-faulty : (i : ℕ) {r : Refusal} → SoundTo ok m n i → i < length (n .segments) → ok i ≡ true
-      → FirstOf (segmentLines (n .head .posts) (segmentAt (n .segments) i) i) (some r) → Faulty ok m n r
-  unfolding segmentLines
-  segment-faulty i z k o f = go f
-    where
-      s : Segment
-      s = segmentAt (n .segments) i
-
-      go : {r : Refusal} → FirstOf (segmentLines (n .head .posts) (segmentAt (n .segments) i) i) (some r) → Faulty ok m n r
-      go (here p) = five z k o ((tells-5 (n .head .posts) s) .passes p)
-      go (below p (here q)) = six z k o (ends-sound (n .head .posts) s ((tells-5 (n .head .posts) s) .fails p)) ((tells-6 s) .passes q)
-      go (below p (below q (here t))) = seven z k o (ends-sound (n .head .posts) s ((tells-5 (n .head .posts) s) .fails p)) ((tells-6 s) .fails q) ((tells-7 s) .passes t)
-
   sound-to : (k : ℕ) → FirstOf (headLines (n .head) m) none → ((j : ℕ) → j < k → FirstOf (linesAt ok n j) none) → SoundTo ok m n k
   sound-to k f g =
       let z = head-sound (n .head) m f in
@@ -168,7 +150,7 @@ module _ (ok : ℕ → Bool) (m : ℕ) (n : Net) where
       }
 
   to-sound : (k : ℕ) → SoundTo ok m n k → (j : ℕ) → j < k → FirstOf (linesAt ok n j) none
-  to-sound k z j l = present-none (ok j) (λ o. sound-segment (n .head .posts) (segmentAt (n .segments) j) j (z .segments-sound j l o))
+  to-sound k z j l = present-none (ok j) (λ o. segment-first (n .head .posts) (segmentAt (n .segments) j) j (R.SegmentRule.nothing (z .segments-sound j l o)))
 
   -- what the rules say of 1 to 7
   data NetRule : Option Refusal → Type 0 where
@@ -179,14 +161,14 @@ module _ (ok : ℕ → Bool) (m : ℕ) (n : Net) where
   segments-rule f (nowhere g) = sound (sound-to (length (n .segments)) f g)
   segments-rule f (lowest-at i k g h) =
       let z = of-present (ok i) h in
-      faulty (segment-faulty i (sound-to i f g) k (z .0) (z .1))
+      faulty (R.Faulty.five-to-seven (sound-to i f g) k (z .0) (segment-rule (n .head .posts) (segmentAt (n .segments) i) i (z .1)))
 
   net-rule : {r : Option Refusal} → FirstOf (netLines ok m n) r → NetRule r
   unfolding netLines allSegmentLines
   net-rule f = go (in-either (headLines (n .head) m) (allSegmentLines ok (n .head .posts) (n .segments)) f)
     where
       go : {r : Option Refusal} → InEither (headLines (n .head) m) (allSegmentLines ok (n .head .posts) (n .segments)) r → NetRule r
-      go (in-first g) = faulty (head-faulty g)
+      go (in-first g) = faulty (R.Faulty.one-to-four (head-rule (n .head) m g))
       go (in-second g h) = segments-rule g (lowest-of (linesAt ok n) (length (n .segments)) h)
 
   -- from the rules to the table
@@ -198,22 +180,17 @@ module _ (ok : ℕ → Bool) (m : ℕ) (n : Net) where
       → FirstOf (segmentLines (n .head .posts) (segmentAt (n .segments) i) i) (some r) → FirstOf (netLines ok m n) (some r)
   unfolding netLines allSegmentLines
   in-segment {i} z k o f =
-      none-append (sound-head (n .head) m (z .head-sound) (z .few-segments))
+      none-append (head-first (n .head) m (R.HeadRule.nothing (z .head-sound) (z .few-segments)))
       (some-each (linesAt ok n) (length (n .segments)) k (to-sound i z) (present (ok i) o f))
 
   pub faulty-first : {r : Refusal} → Faulty ok m n r → FirstOf (netLines ok m n) (some r)
-  faulty-first (one p) = in-head (gives-1 (n .head) m p)
-  faulty-first (two z p) = in-head (gives-2 (n .head) m z p)
-  faulty-first (three z k p) = in-head (gives-3 (n .head) m z k p)
-  faulty-first (four z p) = in-head (gives-4 (n .head) m z p)
-  faulty-first (five {i} z k o p) = in-segment z k o (gives-5 (n .head .posts) (segmentAt (n .segments) i) i p)
-  faulty-first (six {i} z k o e p) = in-segment z k o (gives-6 (n .head .posts) (segmentAt (n .segments) i) i e p)
-  faulty-first (seven {i} z k o e a p) = in-segment z k o (gives-7 (n .head .posts) (segmentAt (n .segments) i) i e a p)
+  faulty-first (R.Faulty.one-to-four h) = in-head (head-first (n .head) m h)
+  faulty-first (R.Faulty.five-to-seven {i} z k o h) = in-segment z k o (segment-first (n .head .posts) (segmentAt (n .segments) i) i h)
 
   pub sound-first : NetSound ok m n → FirstOf (netLines ok m n) none
   unfolding netLines allSegmentLines
   sound-first z =
-      none-append (sound-head (n .head) m (z .head-sound) (z .few-segments))
+      none-append (head-first (n .head) m (R.HeadRule.nothing (z .head-sound) (z .few-segments)))
       (none-each (linesAt ok n) (length (n .segments)) (to-sound (length (n .segments)) z))
 
   -- the table gives r for the net alone exactly where the rules do
@@ -235,3 +212,19 @@ module _ (ok : ℕ → Bool) (m : ℕ) (n : Net) where
   sound-not-faulty z {r} f =
       let e : none ≡ some r = sym (net-sound .1 z) ∙ net-faulty .1 f in
       let y : _≡_ {A = ℕ} 0 1 = cc in omega arith
+
+  -- and their numbers are 1 to 7
+  pub faulty-low : {r : Refusal} → Faulty ok m n r → r .number ≤ 7
+  faulty-low (R.Faulty.one-to-four h) = head-low h
+    where
+      head-low : {r : Refusal} → HeadRule (n .head) m (some r) → r .number ≤ 7
+      head-low (one p) = omega arith
+      head-low (two z p) = omega arith
+      head-low (three z k p) = omega arith
+      head-low (four z p) = omega arith
+  faulty-low (R.Faulty.five-to-seven {i} z k o h) = segment-low h
+    where
+      segment-low : {r : Refusal} → SegmentRule (n .head .posts) (segmentAt (n .segments) i) i (some r) → r .number ≤ 7
+      segment-low (five p) = omega arith
+      segment-low (six e p) = omega arith
+      segment-low (seven e a p) = omega arith

@@ -37,6 +37,21 @@ pub record SegmentSound (posts : ℕ) (s : Segment) : Type 0 where
   pub some-length : 1 ≤ s .length
   pub not-too-long : s .length ≤ longest
 
+-- 1 to 4 of a head, whose net has m segments; none where nothing holds
+pub data HeadRule (h : Head) (m : ℕ) : Option Refusal → Type 0 where
+  one : (h .posts ≡ 0) ⊎ (mostPosts < h .posts) → HeadRule h m (some (refusal 1 0))
+  two : PostsSound h → h .posts ≤ h .source → HeadRule h m (some (refusal 2 0))
+  three : PostsSound h → h .source < h .posts → (h .q ≡ 0) ⊎ ((mostRatio < h .p) ⊎ (mostRatio < h .q)) → HeadRule h m (some (refusal 3 0))
+  four : HeadSound h → mostSegments < m → HeadRule h m (some (refusal 4 0))
+  nothing : HeadSound h → m ≤ mostSegments → HeadRule h m none
+
+-- 5 to 7 of segment i; none where nothing holds
+pub data SegmentRule (posts : ℕ) (s : Segment) (i : ℕ) : Option Refusal → Type 0 where
+  five : (posts ≤ s .a) ⊎ (posts ≤ s .b) → SegmentRule posts s i (some (refusal 5 i))
+  six : EndsSound posts s → s .a ≡ s .b → SegmentRule posts s i (some (refusal 6 i))
+  seven : EndsSound posts s → (s .a ≡ s .b → ⊥) → (s .length ≡ 0) ⊎ (longest < s .length) → SegmentRule posts s i (some (refusal 7 i))
+  nothing : SegmentSound posts s → SegmentRule posts s i none
+
 -- m is the number of segments
 module _ (ok : ℕ → Bool) (m : ℕ) (n : Net) where
   -- 1 to 4 do not hold, nor 5 to 7 of any segment below k that is there
@@ -51,18 +66,9 @@ module _ (ok : ℕ → Bool) (m : ℕ) (n : Net) where
 
   -- 1 to 7, with their places
   pub data Faulty : Refusal → Type 0 where
-    one : (n .head .posts ≡ 0) ⊎ (mostPosts < n .head .posts) → Faulty (refusal 1 0)
-    two : PostsSound (n .head) → n .head .posts ≤ n .head .source → Faulty (refusal 2 0)
-    three : PostsSound (n .head) → n .head .source < n .head .posts
-        → (n .head .q ≡ 0) ⊎ ((mostRatio < n .head .p) ⊎ (mostRatio < n .head .q)) → Faulty (refusal 3 0)
-    four : HeadSound (n .head) → mostSegments < m → Faulty (refusal 4 0)
-    five : {i : ℕ} → SoundTo i → i < length (n .segments) → ok i ≡ true
-        → (n .head .posts ≤ (segmentAt (n .segments) i) .a) ⊎ (n .head .posts ≤ (segmentAt (n .segments) i) .b) → Faulty (refusal 5 i)
-    six : {i : ℕ} → SoundTo i → i < length (n .segments) → ok i ≡ true → EndsSound (n .head .posts) (segmentAt (n .segments) i)
-        → (segmentAt (n .segments) i) .a ≡ (segmentAt (n .segments) i) .b → Faulty (refusal 6 i)
-    seven : {i : ℕ} → SoundTo i → i < length (n .segments) → ok i ≡ true → EndsSound (n .head .posts) (segmentAt (n .segments) i)
-        → ((segmentAt (n .segments) i) .a ≡ (segmentAt (n .segments) i) .b → ⊥)
-        → ((segmentAt (n .segments) i) .length ≡ 0) ⊎ (longest < (segmentAt (n .segments) i) .length) → Faulty (refusal 7 i)
+    one-to-four : {r : Refusal} → HeadRule (n .head) m (some r) → Faulty r
+    five-to-seven : {i : ℕ} {r : Refusal} → SoundTo i → i < length (n .segments) → ok i ≡ true
+        → SegmentRule (n .head .posts) (segmentAt (n .segments) i) i (some r) → Faulty r
 
 module _ (ok : ℕ → Bool) (n : Net) where
   -- post v has a route to the source

@@ -1,46 +1,128 @@
--- Demand 1 of building and margin, for every net, every claimed number of segments and every lent list.
-use mathlib.Core.Path.{_≡_, ap}
+-- Demand 1 of every entry, from its contract.
+use mathlib.Core.Path.{_≡_, refl, sym, ap, _∙_}
 use mathlib.Core.List.{List}
-use mathlib.Core.Option.{some}
+use mathlib.Core.Option.{Option, none, some}
 use Prim.Native.Nat.{ℕ}
+use native.Mathlib.Omega.{arith}
+use lib.ListN.{length}
 use Rattle.net.specs.Net.{Net, every}
-use Rattle.net.specs.Refusals.{Lent}
-use Rattle.net.specs.Building.{refused, MarginAnswer, buildRefusal, marginRefusal, buildAnswer, buildOf, listAfter, afterBuild, marginAnswer, marginOf}
-use Rattle.net.specs.Building as B
+use Rattle.net.specs.Building.{buildRefusal, buildAnswer, buildOf, listAfter, afterBuild, marginRefusal, marginAnswer, marginOf}
+use Rattle.net.specs.declared.Segment.{Segment}
 use Rattle.net.specs.declared.Refusal.{Refusal}
 use Rattle.net.specs.declared.Tree.{Tree}
 use Rattle.net.proofs.Refusals.{build-answers, build-only, nine-exactly, not-joined-exactly, margin-answers, margin-only}
-use Rattle.promises.specs.Demand1.{BuildRefuses, MarginRefuses}
+use Rattle.lent.specs.Lists.{netOn}
+use Rattle.looms.specs.Answers.{answerOf, lentOf, Leaves, marginAnswerOf}
+use Rattle.looms.specs.declared.Answer.{Answer}
+use Rattle.looms.specs.declared.Answer.the-variants.{Refused as NotBuilt}
+use Rattle.looms.specs.declared.MarginAnswer.{MarginAnswer}
+use Rattle.looms.specs.declared.MarginAnswer.the-variants.{Refused as Unmeasured}
+use Rattle.looms.proofs.Meaning.{refused-exactly}
+use Rattle.records.specs.Numbers.{Got, got, refused}
+use Rattle.records.specs.Reading.{netRead}
+use Rattle.records.specs.Writing.{netWritten, writeRefusal, afterWriting, roomAfter}
+use Rattle.records.specs.Answers.{writeAnswerBy, writeAnswerOf, Writes}
+use Rattle.records.specs.declared.reading.ReadAnswer.{ReadAnswer}
+use Rattle.records.specs.declared.reading.ReadAnswer.the-variants.{Refused as NotRead}
+use Rattle.records.specs.declared.writing.WriteAnswer.{WriteAnswer}
+use Rattle.records.specs.declared.writing.WriteAnswer.the-variants.{Refused as NotWritten}
+use Rattle.records.proofs.Ruled.{read-answers, read-only}
+use Rattle.records.proofs.RuledWriting.{write-answers, write-only}
+use Rattle.droverboot.specs.Reading.{readAnswer, listRead, Reads}
+use Rattle.drawn.specs.declared.Run.{Run}
+use Rattle.drawn.proofs.Rules.{outcome-answers, outcome-only}
+use Rattle.promises.specs.Demand1.{BuildRefuses, MarginRefuses, ReadRefuses, WriteRefuses, DrawnRefuses, Demand1}
 
-module _ (n : Net) (m : ℕ) (lent : Lent) where
-  refused-answer : (r : Refusal) → buildRefusal every n m lent ≡ some r → buildOf every n m lent ≡ refused r
-  unfolding buildOf buildAnswer
-  refused-answer r e = ap (buildAnswer every n) e
-
-  refused-list : (r : Refusal) → buildRefusal every n m lent ≡ some r → (t : Tree) (l : List ℕ) → afterBuild every n m lent t l ≡ l
+module _ (n : Net) (m : ℕ) (l s w : List ℕ) where
+  kept : (r : Refusal) → buildRefusal every n m (lentOf l s w) ≡ some r → (t : Tree) (before now : List ℕ) → now ≡ afterBuild every n m (lentOf l s w) t before → now ≡ before
   unfolding afterBuild listAfter
-  refused-list r e t l = ap (λ x. listAfter every n x t l) e
+  kept r e t before now k = k ∙ ap (λ x. listAfter every n x t before) e
 
-  pub build-refuses : BuildRefuses n m lent
+  pub build-refuses : BuildRefuses n m l s w
   build-refuses =
       record {
-        by-the-rules = build-answers every m n lent;
-        no-other = λ r. build-only every m n lent;
-        says-so = refused-answer;
-        untouched = refused-list;
-        nine = nine-exactly every m n lent;
-        not-joined = not-joined-exactly every m n lent;
+        by-the-rules = build-answers every m n (lentOf l s w);
+        no-other = λ r. build-only every m n (lentOf l s w);
+        refuses = λ k r e. (
+          refused-exactly n m (lentOf l s w) (k .answer) r .1 e,
+          kept r e _ _ _ (k .lightest),
+          kept r e _ _ _ (k .shortest),
+          kept r e _ _ _ (k .between),
+        );
+        only-then = λ k r e. refused-exactly n m (lentOf l s w) (k .answer) r .0 e;
+        nine = nine-exactly every m n (lentOf l s w);
+        not-joined = not-joined-exactly every m n (lentOf l s w);
       }
 
-module _ (n : Net) (m post : ℕ) where
-  refused-margin : (r : Refusal) → marginRefusal every n m post ≡ some r → (t : Tree) → marginOf every n m t post ≡ B.MarginAnswer.refused r
-  unfolding marginOf marginAnswer
-  refused-margin r e t = ap (λ x. marginAnswer every n x t post) e
+module _ (n : Net) (m : ℕ) (t : Tree) (post : ℕ) where
+  margin-held : {r : Refusal} (o : Option Refusal) → marginAnswerOf (marginAnswer every n o t post) ≡ Unmeasured r → o ≡ some r
+  unfolding marginAnswer
+  margin-held none e = absurd (let k : _≡_ {A = ℕ} 0 1 = cc in omega arith)
+  margin-held (some s) e = cc
 
-  pub margin-refuses : MarginRefuses n m post
+  refused-margin : {a : MarginAnswer} → a ≡ marginAnswerOf (marginOf every n m t post) → (r : Refusal) → marginRefusal every n m post ≡ some r → a ≡ Unmeasured r
+  unfolding marginOf marginAnswer
+  refused-margin k r e = k ∙ ap (λ x. marginAnswerOf (marginAnswer every n x t post)) e
+
+  margin-refused : {a : MarginAnswer} → a ≡ marginAnswerOf (marginOf every n m t post) → (r : Refusal) → a ≡ Unmeasured r → marginRefusal every n m post ≡ some r
+  unfolding marginOf
+  margin-refused k r e = margin-held (marginRefusal every n m post) (sym k ∙ e)
+
+  pub margin-refuses : MarginRefuses n m t post
   margin-refuses =
       record {
         by-the-rules = margin-answers every m n post;
         no-other = λ r. margin-only every m n post;
-        says-so = refused-margin;
+        refuses = refused-margin;
+        only-then = margin-refused;
       }
+
+module _ (bytes : List ℕ) (l : List Segment) where
+  read-held : {r : Refusal} (g : Got Net) → readAnswer g ≡ NotRead r → g ≡ refused r
+  read-held (got n next) e = absurd (let k : _≡_ {A = ℕ} 0 1 = cc in omega arith)
+  read-held (refused s) e = cc
+
+  pub read-refuses : ReadRefuses bytes l
+  read-refuses =
+      record {
+        by-the-rules = λ all. read-answers bytes all (length l);
+        no-other = λ g. read-only bytes;
+        refuses = λ k r e. (k .0 ∙ ap readAnswer e, k .1 ∙ ap (λ g. listRead g l) e);
+        only-then = λ k r e. read-held (netRead bytes (length l) 0) (sym (k .0) ∙ e);
+      }
+
+module _ (n : Net) (m : ℕ) (room : List ℕ) where
+  write-held : {r : Refusal} (o : Option Refusal) → writeAnswerBy o (length (netWritten n)) ≡ NotWritten r → o ≡ some r
+  write-held none e = absurd (let k : _≡_ {A = ℕ} 0 1 = cc in omega arith)
+  write-held (some s) e = cc
+
+  refused-write : {a : WriteAnswer} {x : List ℕ} → Writes n m room a x → (r : Refusal) → writeRefusal n m (length room) ≡ some r → (a ≡ NotWritten r) × (x ≡ room)
+  unfolding writeAnswerOf roomAfter
+  refused-write k r e = (k .answers ∙ ap (λ o. writeAnswerBy o (length (netWritten n))) e, k .leaves ∙ ap (λ o. afterWriting o n room) e)
+
+  write-refused : {a : WriteAnswer} {x : List ℕ} → Writes n m room a x → (r : Refusal) → a ≡ NotWritten r → writeRefusal n m (length room) ≡ some r
+  unfolding writeAnswerOf
+  write-refused k r e = write-held (writeRefusal n m (length room)) (sym (k .answers) ∙ e)
+
+  pub write-refuses : WriteRefuses n m room
+  write-refuses =
+      record {
+        by-the-rules = write-answers m n (length room);
+        no-other = λ r. write-only m n (length room);
+        refuses = refused-write;
+        only-then = write-refused;
+      }
+
+pub drawn-refuses : (run : Run) → DrawnRefuses run
+drawn-refuses run = record { by-the-rules = λ e. outcome-answers run _ e; no-other = λ e s. outcome-only run _ s e }
+
+-- EVERY ENTRY
+pub demand-1 : Demand1
+demand-1 =
+    record {
+      build = λ h segments. build-refuses (netOn h segments) (length segments);
+      margin = λ h segments. margin-refuses (netOn h segments) (length segments);
+      read = read-refuses;
+      write = λ h segments. write-refuses (netOn h segments) (length segments);
+      drawn = drawn-refuses;
+    }

@@ -1,26 +1,24 @@
 -- Demand 3 for every net that building takes.
 use mathlib.Core.Path.{_≡_}
-use mathlib.Core.Option.{none}
+use mathlib.Core.List.{List}
 use Prim.Native.Nat.{ℕ, _*_, _≤_}
 use native.Mathlib.Nat.{le-refl}
-use lib.ListN.{length}
+use lib.ListN.{length, take}
 use Rattle.net.specs.Net.{Net, every}
-use Rattle.net.specs.Refusals.{Lent}
 use Rattle.net.specs.Rules.{NetSound, AllJoined}
-use Rattle.net.specs.Building.{betweenOf, laidOf, walkOf, walkWith, buildRefusal}
+use Rattle.net.specs.Building.{betweenOf, laidOf, walkOf, walkWith}
 use Rattle.net.proofs.Cost.{AllOf, all-of}
-use Rattle.net.proofs.Refusals.{accepted}
 use Rattle.net.proofs.Sound.{between-tree, laid-length, laid-sum}
 use Rattle.net.proofs.Demand.{path-limit, no-slack, length-limit, length-limit-tree}
-use Rattle.promises.specs.Demand3.{Bounds}
+use Rattle.lent.specs.Lists.{netOn}
+use Rattle.looms.specs.Answers.{Leaves}
+use Rattle.looms.specs.declared.Measured.{Measured}
+use Rattle.looms.specs.declared.Answer.the-variants.{Built}
+use Rattle.promises.specs.Demand3.{Bounds, LengthWithin, Demand3}
+use Rattle.promises.proofs.Taken.{taken-sound, taken-joined}
+use Rattle.promises.proofs.Demand2.{built-as-stated}
 
-module _ (n : Net) (m : ℕ) (lent : Lent) (fits : length (n .segments) ≤ m) (taken : buildRefusal every n m lent ≡ none) where
-  sound : NetSound every m n
-  sound = (accepted every m n lent .0 taken) .0
-
-  joined : AllJoined every n
-  joined = (accepted every m n lent .0 taken) .2
-
+module _ (n : Net) (m : ℕ) (fits : length (n .segments) ≤ m) (sound : NetSound every m n) (joined : AllJoined every n) where
   -- the one ratio is no larger than any post's
   small : AllOf (λ v. n .head .p * n .head .q ≤ n .head .p * n .head .q) ((walkWith every n (λ _. n .head .p) (λ _. n .head .q)) .laid)
   small = all-of (λ v. n .head .p * n .head .q ≤ n .head .p * n .head .q) (λ v. le-refl (n .head .p * n .head .q)) ((walkWith every n (λ _. n .head .p) (λ _. n .head .q)) .laid)
@@ -37,3 +35,14 @@ module _ (n : Net) (m : ℕ) (lent : Lent) (fits : length (n .segments) ≤ m) (
         laid-length = laid-length every m n fits sound (λ _. n .head .p) (λ _. n .head .q);
         laid-sum = laid-sum every m n fits sound (λ _. n .head .p) (λ _. n .head .q) (n .head .p) (n .head .q) small;
       }
+
+-- of what building leaves in the third list
+module _ (n : Net) (m : ℕ) (fits : length (n .segments) ≤ m) (l s w : List ℕ) {x y z : Measured} {k : ℕ} {l′ s′ w′ : List ℕ} (leaves : Leaves n m l s w (Built x y z k) l′ s′ w′) where
+  pub bounds-left : Bounds n (take (n .head .posts) w′) × LengthWithin n (z .length)
+  bounds-left =
+      let b = built-as-stated n m fits l s w leaves in
+      let c : Bounds n (take (n .head .posts) w′) = rw (b .holds-between .tree) (bounds n m fits (taken-sound n m l s w leaves) (taken-joined n m l s w leaves)) in
+      (c, record { any-spanning-tree = λ U span. rw (b .measures-between .length-is) (c .length-spanning U span) })
+
+pub demand-3 : Demand3
+demand-3 = record { build = λ h segments l s w. bounds-left (netOn h segments) (length segments) (le-refl (length segments)) l s w }

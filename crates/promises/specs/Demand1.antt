@@ -1,36 +1,87 @@
--- Demand 1, as far as it concerns nets: "No input makes it fail. Every entry refuses a bad net .. by itself, with the number and place of document 01;
--- a refusal changes nothing in lent memory. An otherwise sound net is refused as not joined exactly when some post has no route to the source."
--- The rules that the numbers and places follow stand in net/specs/Rules. What is answered and left is defined for every input, so nothing can fail:
--- that code answers and leaves just that is the contract of its own crate.
+-- Demand 1: "No input makes it fail. Every entry refuses a bad net, record, length or room by itself, with the number and place of document 01; a refusal
+-- changes nothing in lent memory. An otherwise sound net is refused as not joined exactly when some post has no route to the source."
+-- One record for each entry, for whatever is lent to it. `by-the-rules` and `no-other`: document 01's rules, one for each number, give one answer for every
+-- input. `refuses`: where they refuse, every outcome that the entry's contract allows is that refusal, and what was lent is as it was. `only-then`: an outcome is
+-- a refusal only where they refuse. The rules stand in net/specs/Rules, records/specs/Rules and drawn/specs/Rules.
 use mathlib.Core.Path.{_≡_}
 use mathlib.Core.Logic.{_↔_}
 use mathlib.Core.List.{List}
 use mathlib.Core.Option.{Option, some}
 use Prim.Native.Nat.{ℕ, _<_}
+use lib.ListN.{length}
 use Rattle.net.specs.Net.{Net, every}
-use Rattle.net.specs.Refusals.{Lent, refusal}
+use Rattle.net.specs.Refusals.{refusal}
 use Rattle.net.specs.Rules.{NetSound, LongEnough, Joined, LowestApart, BuildRule, MarginRule}
-use Rattle.net.specs.Building.{refused, MarginAnswer, buildRefusal, marginRefusal, buildOf, afterBuild, marginOf}
-use Rattle.net.specs.Building as B
+use Rattle.net.specs.Building.{buildRefusal, marginRefusal, marginOf}
+use Rattle.net.specs.declared.Head.{Head}
+use Rattle.net.specs.declared.Segment.{Segment}
 use Rattle.net.specs.declared.Refusal.{Refusal}
 use Rattle.net.specs.declared.Tree.{Tree}
+use Rattle.lent.specs.Lists.{netOn}
+use Rattle.looms.specs.Answers.{lentOf, Leaves, marginAnswerOf}
+use Rattle.looms.specs.declared.Answer.{Answer}
+use Rattle.looms.specs.declared.Answer.the-variants.{Refused as NotBuilt}
+use Rattle.looms.specs.declared.MarginAnswer.{MarginAnswer}
+use Rattle.looms.specs.declared.MarginAnswer.the-variants.{Refused as Unmeasured}
+use Rattle.records.specs.Numbers.{Bytes, Got, refused}
+use Rattle.records.specs.Reading.{netRead}
+use Rattle.records.specs.Writing.{writeRefusal}
+use Rattle.records.specs.Rules.{ReadRule, WriteRule}
+use Rattle.records.specs.Answers.{Writes}
+use Rattle.records.specs.declared.reading.ReadAnswer.{ReadAnswer}
+use Rattle.records.specs.declared.reading.ReadAnswer.the-variants.{Refused as NotRead}
+use Rattle.records.specs.declared.writing.WriteAnswer.{WriteAnswer}
+use Rattle.records.specs.declared.writing.WriteAnswer.the-variants.{Refused as NotWritten}
+use Rattle.droverboot.specs.Reading.{Reads}
+use Rattle.drawn.specs.Drawn.{drawnOf}
+use Rattle.drawn.specs.Says.{Says, saysOf}
+use Rattle.drawn.specs.Rules.{Answers}
+use Rattle.drawn.specs.declared.Run.{Run}
+use Rattle.drawn.specs.declared.Answer.{Answer as Drawn}
 
--- of a net that claims m segments, and of three lent lists
-pub record BuildRefuses (n : Net) (m : ℕ) (lent : Lent) : Type 0 where
-  -- the answer follows the rules, and no other answer does
-  pub by-the-rules : BuildRule every m n lent (buildRefusal every n m lent)
-  pub no-other : (r : Option Refusal) → BuildRule every m n lent r → r ≡ buildRefusal every n m lent
-  -- a refusal is answered with its number and place, and leaves every lent list as it was
-  pub says-so : (r : Refusal) → buildRefusal every n m lent ≡ some r → buildOf every n m lent ≡ refused r
-  pub untouched : (r : Refusal) → buildRefusal every n m lent ≡ some r → (t : Tree) (l : List ℕ) → afterBuild every n m lent t l ≡ l
+-- BUILDING a net n that claims m segments, with three lists that hold l, s and w
+pub record BuildRefuses (n : Net) (m : ℕ) (l s w : List ℕ) : Type 0 where
+  pub by-the-rules : BuildRule every m n (lentOf l s w) (buildRefusal every n m (lentOf l s w))
+  pub no-other : (r : Option Refusal) → BuildRule every m n (lentOf l s w) r → r ≡ buildRefusal every n m (lentOf l s w)
+  pub refuses : {a : Answer} {l′ s′ w′ : List ℕ} → Leaves n m l s w a l′ s′ w′
+      → (r : Refusal) → buildRefusal every n m (lentOf l s w) ≡ some r → (a ≡ NotBuilt r) × (l′ ≡ l) × (s′ ≡ s) × (w′ ≡ w)
+  pub only-then : {a : Answer} {l′ s′ w′ : List ℕ} → Leaves n m l s w a l′ s′ w′ → (r : Refusal) → a ≡ NotBuilt r → buildRefusal every n m (lentOf l s w) ≡ some r
   -- 9 exactly when nothing before it holds, that post has no route and every lower one has
-  pub nine : (v : ℕ) → (buildRefusal every n m lent ≡ some (refusal 9 v)) ↔ (NetSound every m n × LongEnough n lent × LowestApart every n v)
+  pub nine : (v : ℕ) → (buildRefusal every n m (lentOf l s w) ≡ some (refusal 9 v)) ↔ (NetSound every m n × LongEnough n (lentOf l s w) × LowestApart every n v)
   -- an otherwise sound net is refused as not joined exactly when some post has no route to the source
-  pub not-joined : NetSound every m n → LongEnough n lent
-      → ((v : ℕ) × (buildRefusal every n m lent ≡ some (refusal 9 v))) ↔ ((v : ℕ) × (v < n .head .posts) × (Joined every n v → ⊥))
+  pub not-joined : NetSound every m n → LongEnough n (lentOf l s w)
+      → ((v : ℕ) × (buildRefusal every n m (lentOf l s w) ≡ some (refusal 9 v))) ↔ ((v : ℕ) × (v < n .head .posts) × (Joined every n v → ⊥))
 
--- of a post that is asked about
-pub record MarginRefuses (n : Net) (m post : ℕ) : Type 0 where
+-- THE MARGIN of a post; no list is lent
+pub record MarginRefuses (n : Net) (m : ℕ) (t : Tree) (post : ℕ) : Type 0 where
   pub by-the-rules : MarginRule every m n post (marginRefusal every n m post)
   pub no-other : (r : Option Refusal) → MarginRule every m n post r → r ≡ marginRefusal every n m post
-  pub says-so : (r : Refusal) → marginRefusal every n m post ≡ some r → (t : Tree) → marginOf every n m t post ≡ B.MarginAnswer.refused r
+  pub refuses : {a : MarginAnswer} → a ≡ marginAnswerOf (marginOf every n m t post) → (r : Refusal) → marginRefusal every n m post ≡ some r → a ≡ Unmeasured r
+  pub only-then : {a : MarginAnswer} → a ≡ marginAnswerOf (marginOf every n m t post) → (r : Refusal) → a ≡ Unmeasured r → marginRefusal every n m post ≡ some r
+
+-- READING the bytes of a record into a list that holds l
+pub record ReadRefuses (bytes : List ℕ) (l : List Segment) : Type 0 where
+  pub by-the-rules : Bytes bytes → ReadRule bytes (length l) (netRead bytes (length l) 0)
+  pub no-other : (g : Got Net) → ReadRule bytes (length l) g → netRead bytes (length l) 0 ≡ g
+  pub refuses : {a : ReadAnswer} {l′ : List Segment} → Reads bytes l a l′ → (r : Refusal) → netRead bytes (length l) 0 ≡ refused r → (a ≡ NotRead r) × (l′ ≡ l)
+  pub only-then : {a : ReadAnswer} {l′ : List Segment} → Reads bytes l a l′ → (r : Refusal) → a ≡ NotRead r → netRead bytes (length l) 0 ≡ refused r
+
+-- WRITING a net n that claims m segments into a room that holds those bytes
+pub record WriteRefuses (n : Net) (m : ℕ) (room : List ℕ) : Type 0 where
+  pub by-the-rules : WriteRule m n (length room) (writeRefusal n m (length room))
+  pub no-other : (r : Option Refusal) → WriteRule m n (length room) r → r ≡ writeRefusal n m (length room)
+  pub refuses : {a : WriteAnswer} {x : List ℕ} → Writes n m room a x → (r : Refusal) → writeRefusal n m (length room) ≡ some r → (a ≡ NotWritten r) × (x ≡ room)
+  pub only-then : {a : WriteAnswer} {x : List ℕ} → Writes n m room a x → (r : Refusal) → a ≡ NotWritten r → writeRefusal n m (length room) ≡ some r
+
+-- A DRAWN RUN; what an answer says is a length or a refusal with number and place
+pub record DrawnRefuses (run : Run) : Type 0 where
+  pub by-the-rules : {a : Drawn} → a ≡ drawnOf run → Answers run (saysOf a)
+  pub no-other : {a : Drawn} → a ≡ drawnOf run → (s : Says) → Answers run s → saysOf a ≡ s
+
+-- EVERY ENTRY, whatever is lent to it
+pub record Demand1 : Type 0 where
+  pub build : (h : Head) (segments : List Segment) (l s w : List ℕ) → BuildRefuses (netOn h segments) (length segments) l s w
+  pub margin : (h : Head) (segments : List Segment) (t : Tree) (post : ℕ) → MarginRefuses (netOn h segments) (length segments) t post
+  pub read : (bytes : List ℕ) (l : List Segment) → ReadRefuses bytes l
+  pub write : (h : Head) (segments : List Segment) (room : List ℕ) → WriteRefuses (netOn h segments) (length segments) room
+  pub drawn : (run : Run) → DrawnRefuses run

@@ -1,20 +1,45 @@
--- Demand 2, as far as it concerns trees: "Lightest tree, shortest tree and walk as document 01 states them, ties included."
--- The definitions of net/specs compute them; here is what they come to in document 01's own words, over chains and routes.
+-- Demand 2: "Exactly the published rules. Lightest tree, shortest tree and walk as document 01 states them, ties included. Records are read and written both
+-- ways without loss, one record for one net. A drawn length becomes the whole number of sixteenths that it is."
+-- The definitions of net/specs compute the trees; `TreesAsStated` is what they come to in document 01's own words, over chains and routes. The rest is said of the
+-- outcomes that the entries' contracts allow: what building leaves in the lent lists, a margin that is given, what is read and written, a drawn run's length.
 use mathlib.Core.Path.{_≡_}
 use mathlib.Core.Logic.{_↔_}
 use mathlib.Core.Bool.{false}
+use mathlib.Core.List.{List, _++_}
 use Prim.Native.Nat.{ℕ, _+_, _*_, _≤_, _<_}
 use lib.Dec.{ltb}
-use lib.IntN.{pos}
+use lib.IntN.{ℤ, pos}
 use lib.Signed.{ltZ}
+use lib.Ieee.{Float}
+use lib.ListN.{length, take, drop}
+use Rattle.net.specs.declared.Head.{Head}
+use Rattle.net.specs.declared.Segment.{Segment}
 use Rattle.net.specs.declared.Tree.{Tree}
 use Rattle.net.specs.declared.Tree.the-variants.{Shortest, Between}
 use Rattle.net.specs.Net.{Net, every, lengthAt}
-use Rattle.net.specs.Trees.{at, IsLeast, HangsBy, ExactlyBelonging, IsTree, entry, pathIn}
+use Rattle.net.specs.Trees.{at, IsLeast, HangsBy, ExactlyBelonging, IsTree, entry, pathIn, whole, radius}
 use Rattle.net.specs.Walk.{atStart, walk}
-use Rattle.net.specs.Building.{lightestOf, leastLengthsOf, shortestOf, betweenOf, givenWith, walkOf, treeOf, marginIn}
+use Rattle.net.specs.Building.{lightestOf, leastLengthsOf, shortestOf, betweenOf, laidOf, givenWith, walkOf, treeOf, marginOf}
+use Rattle.lent.specs.Lists.{netOn}
+use Rattle.looms.specs.Answers.{Leaves, marginAnswerOf}
+use Rattle.looms.specs.declared.Measured.{Measured}
+use Rattle.looms.specs.declared.Answer.the-variants.{Built}
+use Rattle.looms.specs.declared.MarginAnswer.the-variants.{Margin}
+use Rattle.records.specs.Numbers.{Bytes}
+use Rattle.records.specs.Writing.{onto}
+use Rattle.records.specs.Answers.{Writes}
+use Rattle.records.specs.declared.reading.ReadAnswer.{ReadAnswer}
+use Rattle.records.specs.declared.reading.ReadAnswer.the-variants.{Read}
+use Rattle.records.specs.declared.writing.WriteAnswer.{WriteAnswer}
+use Rattle.records.specs.declared.writing.WriteAnswer.the-variants.{Written}
+use Rattle.droverboot.specs.Reading.{Reads}
+use Rattle.drawn.specs.Drawn.{drawnOf}
+use Rattle.drawn.specs.Rules.{Long, BothLong}
+use Rattle.drawn.specs.declared.Run.the-variants.{Straight, Corner}
+use Rattle.drawn.specs.declared.Answer.{Answer as Drawn}
+use Rattle.drawn.specs.declared.Answer.the-variants.{Length}
 
--- of a net that building takes
+-- THE TREES of a net that building takes
 pub record TreesAsStated (n : Net) : Type 0 where
   -- LIGHTEST: its entries are exactly the segments whose ends no chain of segments before them joins, hung from the source
   pub lightest-belong : ExactlyBelonging (n .segments) every (n .head .posts) (n .head .source) (lightestOf every n)
@@ -29,13 +54,66 @@ pub record TreesAsStated (n : Net) : Type 0 where
       → walk (givenWith every n (λ _. n .head .p) (λ _. n .head .q)) k (n .head .source) (atStart (n .head .posts) (n .head .source)) ≡ walkOf every n
   pub between-tree : IsTree (n .segments) every (n .head .posts) (n .head .source) (betweenOf every n) (pathIn (n .segments) (n .head .posts) (betweenOf every n))
 
--- MARGIN: "It is signed, and below zero exactly when the post breaks the limit. For the source it is 0."
-pub record MarginsAsStated (n : Net) : Type 0 where
-  pub below-zero : (t : Tree) (v : ℕ) → ltZ (marginIn every n t v) (pos 0)
-      ≡ ltb ((n .head .p + n .head .q) * at (leastLengthsOf every n) v) (n .head .q * pathIn (n .segments) (n .head .posts) (treeOf every n t) v)
-  pub zero-at-limit : (t : Tree) (v : ℕ) → (marginIn every n t v ≡ pos 0)
-      ↔ ((n .head .p + n .head .q) * at (leastLengthsOf every n) v ≡ n .head .q * pathIn (n .segments) (n .head .posts) (treeOf every n t) v)
-  pub source-zero : (t : Tree) → marginIn every n t (n .head .source) ≡ pos 0
+-- WHAT BUILDING LEAVES
+-- the answer's length and radius are those of the tree list t
+pub record Measures (n : Net) (t : List ℕ) (m : Measured) : Type 0 where
+  pub length-is : m .length ≡ whole (n .segments) (n .head .posts) t
+  pub radius-is : m .radius ≡ radius (n .segments) (n .head .posts) t
+
+-- a lent list that held `before` now begins with the tree t, and is as it was behind it
+pub record Holds (n : Net) (t before now : List ℕ) : Type 0 where
+  pub tree : take (n .head .posts) now ≡ t
+  pub rest : drop (n .head .posts) now ≡ drop (n .head .posts) before
+
+-- of a net n, of the three lists before and after, and of what Built says
+pub record BuiltAsStated (n : Net) (l s w l′ s′ w′ : List ℕ) (lightest shortest between : Measured) (laid : ℕ) : Type 0 where
+  pub as-stated : TreesAsStated n
+  pub holds-lightest : Holds n (lightestOf every n) l l′
+  pub holds-shortest : Holds n (shortestOf every n) s s′
+  pub holds-between : Holds n (betweenOf every n) w w′
+  pub measures-lightest : Measures n (take (n .head .posts) l′) lightest
+  pub measures-shortest : Measures n (take (n .head .posts) s′) shortest
+  pub measures-between : Measures n (take (n .head .posts) w′) between
+  pub laid-is : laid ≡ length (laidOf every n)
+
+-- A MARGIN z that is given for a post in the named tree: "It is signed, and below zero exactly when the post breaks the limit. For the source it is 0."
+pub record MarginAsStated (n : Net) (t : Tree) (post : ℕ) (z : ℤ) : Type 0 where
+  pub below-zero : ltZ z (pos 0)
+      ≡ ltb ((n .head .p + n .head .q) * at (leastLengthsOf every n) post) (n .head .q * pathIn (n .segments) (n .head .posts) (treeOf every n t) post)
+  pub zero-at-limit : (z ≡ pos 0)
+      ↔ ((n .head .p + n .head .q) * at (leastLengthsOf every n) post ≡ n .head .q * pathIn (n .segments) (n .head .posts) (treeOf every n t) post)
+  pub source-zero : post ≡ n .head .source → z ≡ pos 0
   -- no post breaks its limit in the third tree, nor in the shortest
-  pub between-within : (v : ℕ) → v < n .head .posts → ltZ (marginIn every n Between v) (pos 0) ≡ false
-  pub shortest-within : (v : ℕ) → v < n .head .posts → ltZ (marginIn every n Shortest v) (pos 0) ≡ false
+  pub between-within : t ≡ Between → ltZ z (pos 0) ≡ false
+  pub shortest-within : t ≡ Shortest → ltZ z (pos 0) ≡ false
+
+-- RECORDS: "read and written both ways without loss, one record for one net"
+pub record RecordsBothWays : Type 0 where
+  -- what was written reads as the same head and segments, laid into any list that is long enough
+  pub written-then-read : (h : Head) (segments : List Segment) (room : List ℕ) {size : ℕ} {x : List ℕ} → Writes (netOn h segments) (length segments) room (Written size) x
+      → (l : List Segment) {a : ReadAnswer} {l′ : List Segment} → length segments ≤ length l → Reads (take size x) l a l′
+      → (a ≡ Read h (length segments)) × (l′ ≡ segments ++ drop (length segments) l)
+  -- what was read is written again byte for byte, into any room that is long enough
+  pub read-then-written : (bytes : List ℕ) (l : List Segment) {h : Head} {count : ℕ} {l′ : List Segment} → Bytes bytes → Reads bytes l (Read h count) l′
+      → (room : List ℕ) {a : WriteAnswer} {x : List ℕ} → length bytes ≤ length room → Writes (netOn h (take count l′)) count room a x
+      → (a ≡ Written (length bytes)) × (x ≡ onto bytes room)
+  -- two records of one net are equal
+  pub one-record : (b c : List ℕ) (l m : List Segment) {h : Head} {count : ℕ} {l′ m′ : List Segment} → Bytes b → Bytes c
+      → Reads b l (Read h count) l′ → Reads c m (Read h count) m′ → take count l′ ≡ take count m′ → b ≡ c
+  -- and two nets of one record are
+  pub one-net : (h k : Head) (ss ts : List Segment) (room room₂ : List ℕ) {size size₂ : ℕ} {x y : List ℕ} → Writes (netOn h ss) (length ss) room (Written size) x
+      → Writes (netOn k ts) (length ts) room₂ (Written size₂) y → take size x ≡ take size₂ y → netOn h ss ≡ netOn k ts
+
+-- DRAWN RUNS: "A drawn length becomes the whole number of sixteenths that it is."
+pub record DrawnAsStated : Type 0 where
+  pub straight : (x : Float) {a : Drawn} → a ≡ drawnOf (Straight x) → (k : ℕ) → (a ≡ Length k) ↔ Long x k
+  pub corner : (x y : Float) {a : Drawn} → a ≡ drawnOf (Corner x y) → (k : ℕ) → (a ≡ Length k) ↔ BothLong x y k
+
+-- EVERY ENTRY
+pub record Demand2 : Type 0 where
+  pub build : (h : Head) (segments : List Segment) (l s w : List ℕ) {x y z : Measured} {k : ℕ} {l′ s′ w′ : List ℕ}
+      → Leaves (netOn h segments) (length segments) l s w (Built x y z k) l′ s′ w′ → BuiltAsStated (netOn h segments) l s w l′ s′ w′ x y z k
+  pub margin : (h : Head) (segments : List Segment) (t : Tree) (post : ℕ) {z : ℤ}
+      → Margin z ≡ marginAnswerOf (marginOf every (netOn h segments) (length segments) t post) → MarginAsStated (netOn h segments) t post z
+  pub records : RecordsBothWays
+  pub drawn : DrawnAsStated

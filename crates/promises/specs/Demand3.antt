@@ -1,12 +1,20 @@
 -- Demand 3, the bounds: "The third tree reaches every post; for each post q·path ≤ (p+q)·(its shortest route in the net);
--- p·length ≤ (p+2q)·(length of any spanning tree of the net)." Stated over every route and over every set of segments that joins all posts.
+-- p·length ≤ (p+2q)·(length of any spanning tree of the net)." Stated over every route and over every set of segments that joins all posts, of what building
+-- leaves in the third list: by demand 2 that is the walk's tree, and no copy of another.
 use mathlib.Core.Path.{_≡_}
 use mathlib.Core.Bool.{Bool}
 use mathlib.Core.List.{List}
 use Prim.Native.Nat.{ℕ, _+_, _*_, _≤_, _<_}
+use lib.ListN.{length, take}
+use Rattle.net.specs.declared.Head.{Head}
+use Rattle.net.specs.declared.Segment.{Segment}
 use Rattle.net.specs.Net.{Net, every, lengthAt, Route, routeLength, weigh, setLength, JoinsAll, SpanningTree}
 use Rattle.net.specs.Trees.{at, IsLeast, IsTree, pathIn, whole}
 use Rattle.net.specs.Building.{lightestOf, leastLengthsOf, laidOf}
+use Rattle.lent.specs.Lists.{netOn}
+use Rattle.looms.specs.Answers.{Leaves}
+use Rattle.looms.specs.declared.Measured.{Measured}
+use Rattle.looms.specs.declared.Answer.the-variants.{Built}
 
 -- of a net that building takes, and of its third tree t
 pub record Bounds (n : Net) (t : List ℕ) : Type 0 where
@@ -28,3 +36,13 @@ pub record Bounds (n : Net) (t : List ℕ) : Type 0 where
   pub laid-length : whole (n .segments) (n .head .posts) t
       ≤ whole (n .segments) (n .head .posts) (lightestOf every n) + weigh (at (leastLengthsOf every n)) (laidOf every n)
   pub laid-sum : n .head .p * weigh (at (leastLengthsOf every n)) (laidOf every n) ≤ 2 * n .head .q * whole (n .segments) (n .head .posts) (lightestOf every n)
+
+-- the third tree's length z as the answer says it: within the bound of every spanning tree
+pub record LengthWithin (n : Net) (z : ℕ) : Type 0 where
+  pub any-spanning-tree : (U : ℕ → Bool) → SpanningTree (n .segments) every (n .head .posts) (n .head .source) U
+      → n .head .p * z ≤ (n .head .p + 2 * n .head .q) * setLength (n .segments) U
+
+-- WHERE BUILDING ANSWERS BUILT
+pub record Demand3 : Type 0 where
+  pub build : (h : Head) (segments : List Segment) (l s w : List ℕ) {x y z : Measured} {k : ℕ} {l′ s′ w′ : List ℕ}
+      → Leaves (netOn h segments) (length segments) l s w (Built x y z k) l′ s′ w′ → Bounds (netOn h segments) (take (h .posts) w′) × LengthWithin (netOn h segments) (z .length)

@@ -2,5 +2,5 @@
 pub mod Demand1
 pub mod Demand2
 pub mod Demand3
-pub mod Left
 pub mod Worked
+pub mod Unique

@@ -15,5 +15,6 @@ pub mod RoundTrip
 pub mod Lengths
 pub mod RuledNumbers
 pub mod Ruled
+pub mod RuledWriting
 pub mod Outcomes
 pub mod Worked

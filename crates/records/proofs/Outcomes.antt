@@ -1,32 +1,29 @@
--- What the contracts of the public functions come to: two outcomes that a contract allows are equal; what the answers say in document 01's words;
--- the round trips over the outcomes of `write_array` and `read_array`. Relies on RoundTrip, Sizes and Lengths.
+-- What the contracts of the public functions come to: two outcomes that a contract allows are equal; what the answers say in document 01's words; what was
+-- written where the answer is Written, and that a sound net is written. Relies on Sizes.
 use Prim.Native.Nat.{ℕ, _≤_}
-use mathlib.Core.Path.{_≡_, refl, sym, ap, _∙_}
+use mathlib.Core.Path.{_≡_, refl, sym, _∙_}
 use mathlib.Core.List.{List, _++_}
 use mathlib.Core.Option.{Option, none, some}
 use mathlib.Core.Bool.{Bool, true, false, cond}
 use native.Mathlib.Omega.{arith}
-use lib.ListN.{length, take}
+use lib.ListN.{length}
 use lib.Dec.{ltb}
-use lib.Seq.{take-append-seam, length-take-le}
+use lib.Seq.{take-append-seam}
 use borrow.Author.Tests.{ltb-false, le-ltb}
-use Rattle.net.specs.Net.{Net, netOf, every}
+use Rattle.net.specs.Net.{Net, every}
 use Rattle.net.specs.Refusals.{refusal, first, netLines}
 use Rattle.net.specs.Rules.{NetSound}
-use Rattle.net.specs.declared.Segment.{Segment}
-use Rattle.net.specs.declared.Head.{Head}
 use Rattle.net.specs.declared.Refusal.{Refusal}
-use Rattle.records.specs.Numbers.{Bytes, Got, got, refused, number}
+use Rattle.records.specs.Numbers.{Got, got, refused, number}
 use Rattle.records.specs.Reading.{netRead}
 use Rattle.records.specs.Writing.{netWritten, shortLines, writeRefusal, onto, partOf, afterWriting, roomAfter}
-use Rattle.records.specs.Answers.{saidOf, numberedOf, saysNumbered, padded, readArrayOf, saysRead, writeAnswerBy, writeAnswerOf, saidSize, saysWritten, Writes}
+use Rattle.records.specs.Answers.{saidOf, numberedOf, saysNumbered, readArrayOf, saysRead, writeAnswerBy, writeAnswerOf, saidSize, saysWritten, Writes}
 use Rattle.records.specs.declared.numbers.Numbered.{Numbered}
 use Rattle.records.specs.declared.reading.ReadArray.{ReadArray}
-use Rattle.records.specs.declared.reading.ReadAnswer.the-variants.{Read, Refused as ReadRefused}
 use Rattle.records.specs.declared.writing.WriteAnswer.{WriteAnswer}
 use Rattle.records.specs.declared.writing.WriteAnswer.the-variants.{Written}
-use Rattle.records.proofs.Sizes.{both-none, sound-of, none-of, first-none}
-use Rattle.records.proofs.RoundTrip.{read-of-written, written-of-read}
+use Rattle.net.proofs.Faults.{net-sound}
+use Rattle.records.proofs.Sizes.{both-none, first-none}
 
 -- TWO OUTCOMES ARE EQUAL, one law for each public function
 pub number-at-unique : (bytes : List ℕ) (at : ℕ) (r r′ : Numbered) → r ≡ numberedOf (number bytes at) → r′ ≡ numberedOf (number bytes at) → r ≡ r′
@@ -59,7 +56,7 @@ pub says-written : (n : Net) (m room : ℕ) → saysWritten (writeAnswerOf n m r
 unfolding writeAnswerOf
 says-written n m room = by-refusal (writeRefusal n m room) (length (netWritten n))
 
--- WRITING, THEN READING
+-- WHAT WAS WRITTEN
 -- a net that was written is sound, its record stands at the front of the room, and behind it what stood there
 pub record WasWritten (n : Net) (m : ℕ) (room : List ℕ) (size : ℕ) (x : List ℕ) : Type 0 where
   pub sound : NetSound every m n
@@ -84,12 +81,12 @@ unfolding shortLines first
 short-none room size h = rw (le-ltb room size h)
 
 -- a sound net is written where the room is long enough
-sound-writes : (n : Net) (m : ℕ) (room : List ℕ) → NetSound every m n → length (netWritten n) ≤ length room
+pub sound-writes : (n : Net) (m : ℕ) (room : List ℕ) → NetSound every m n → length (netWritten n) ≤ length room
     → (writeAnswerOf n m (length room) ≡ Written (length (netWritten n))) × (roomAfter n m room ≡ onto (netWritten n) room)
 unfolding writeAnswerOf roomAfter
 sound-writes n m room s l =
     let e : writeRefusal n m (length room) ≡ none =
-    sym (refusal-lines n m (length room)) ∙ first-none (netLines every m n) _ (none-of n m s) ∙ short-none (length room) (length (netWritten n)) l in
+    sym (refusal-lines n m (length room)) ∙ first-none (netLines every m n) _ ((net-sound every m n) .1 s) ∙ short-none (length room) (length (netWritten n)) l in
     (rw e, rw e)
 
 pub was-written : (n : Net) (m : ℕ) (room : List ℕ) (r : WriteAnswer) (x : List ℕ) (size : ℕ) → Writes n m room r x → r ≡ Written size → WasWritten n m room size x
@@ -102,40 +99,5 @@ was-written n m room r x size w f = go (writeRefusal n m (length room)) refl (w 
     go : (o : Option Refusal) → writeRefusal n m (length room) ≡ o → r ≡ writeAnswerBy o (length (netWritten n)) → x ≡ afterWriting o n room → WasWritten n m room size x
     go none e a b =
         let p = none-both e in
-        record { sound = sound-of n m (p .0); size-is = cc; room-long = not-short _ _ (p .1); room-is = b }
+        record { sound = (net-sound every m n) .0 (p .0); size-is = cc; room-long = not-short _ _ (p .1); room-is = b }
     go (some q) e a b = let z : _≡_ {A = ℕ} 0 1 = cc in absurd (omega arith)
-
--- reading what was written gives the net back
-pub written-then-read : (head : Head) (count : ℕ) (segs : List Segment) (room : List ℕ) (r : WriteAnswer) (x : List ℕ) (size lent : ℕ)
-    → length segs ≡ 2048 → Writes (netOf head count segs) count room r x → r ≡ Written size → count ≤ lent
-    → readArrayOf (netRead (take size x) lent 0) ≡ record { answer = Read head count; segments = padded (take count segs) }
-written-then-read head count segs room r x size lent array w f few =
-    let n = netOf head count segs in
-    let v = was-written n count room r x size w f in
-    let c : length (take count segs) ≡ count = length-take-le count segs (let k = v .sound .few-segments in omega arith) in
-    let k = v .sound in
-    let s : NetSound every (length (take count segs)) n =
-    record { head-sound = k .head-sound; few-segments = omega (arith, k .few-segments); segments-sound = k .segments-sound } in
-    let t : take size x ≡ netWritten n = rw (v .room-is, v .size-is) (take-append-seam (netWritten n) _) in
-    let e = read-of-written n lent s (omega arith) in
-    rw (t, e, c)
-
--- READING, THEN WRITING: writing what was read gives the bytes back
-pub read-then-written : (bytes : List ℕ) (lent : ℕ) (a : ReadArray) (head : Head) (count : ℕ) (room : List ℕ) (r : WriteAnswer) (x : List ℕ)
-    → Bytes bytes → a ≡ readArrayOf (netRead bytes lent 0) → a .answer ≡ Read head count → length bytes ≤ length room
-    → Writes (netOf head count (a .segments)) count room r x → (r ≡ Written (length bytes)) × (x ≡ onto bytes room)
-read-then-written bytes lent a head count room r x all e f long w = go (netRead bytes lent 0) refl e
-  where
-    go : (g : Got Net) → netRead bytes lent 0 ≡ g → a ≡ readArrayOf g → (r ≡ Written (length bytes)) × (x ≡ onto bytes room)
-    go (refused q) p e = let y : a .answer ≡ ReadRefused q = ap (λ (b : ReadArray). b .answer) e in let z : _≡_ {A = ℕ} 0 1 = cc in absurd (omega arith)
-    go (got n next) p e =
-        let v = written-of-read bytes lent n next all p in
-        let y : a .answer ≡ Read (n .head) (length (n .segments)) = ap (λ (b : ReadArray). b .answer) e in
-        let h : n .head ≡ head = cc in
-        let c : length (n .segments) ≡ count = cc in
-        let g : a .segments ≡ padded (n .segments) = ap (λ (b : ReadArray). b .segments) e in
-        let m : netOf head count (a .segments) ≡ n = rw (g, ← h, ← c, take-append-seam (n .segments)) in
-        let q = sound-writes n (length (n .segments)) room (v .sound) (let l = ap (λ (b : List ℕ). length b) (v .written-is) in omega arith) in
-        let d = v .written-is in
-        let k = rw (m, ← c) at w in
-        (k .answers ∙ q .0 ∙ rw d, k .leaves ∙ q .1 ∙ rw d)

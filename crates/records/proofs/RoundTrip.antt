@@ -8,13 +8,13 @@ use native.Mathlib.Omega.{arith}
 use lib.ListN.{length, drop, drop-of-length-le}
 use lib.Seq.{drop-length}
 use Rattle.net.specs.Net.{Net, every, segmentAt, mostSegments}
-use Rattle.net.specs.Rules.{HeadSound, SegmentSound, NetSound}
+use Rattle.net.specs.Rules.{HeadSound, SegmentSound, NetSound, nothing}
 use Rattle.net.specs.declared.Segment.{Segment}
 use Rattle.net.specs.declared.Head.{Head}
 use Rattle.records.specs.Numbers.{Bytes, mostNumbers, written, got}
 use Rattle.records.specs.Reading.{Triple, Heading, triple, heading, segment, segments, netRead}
 use Rattle.records.specs.Writing.{headWritten, segmentWritten, segmentsWritten, netWritten}
-use Rattle.records.specs.Rules.{Stand, nothing}
+use Rattle.records.specs.Rules.{Stand}
 use Rattle.records.proofs.Lines.{head-only, head-sound, segment-only, segment-sound}
 use Rattle.records.proofs.Runs.{stand-append, stand-first, stand-second, stand-none, number-stands, number-is}
 use Rattle.records.proofs.Steps.{triple-is, triple-all, heading-is, heading-all, segmentFrom, segment-is, segment-all}

@@ -17,7 +17,8 @@ use Rattle.net.specs.declared.Head.{Head}
 use Rattle.net.specs.declared.Refusal.{Refusal}
 use Rattle.records.specs.Numbers.{Bytes, Got, got, refused, number}
 use Rattle.records.specs.Reading.{andThen, Triple, Heading, triple, heading, segment, segments, netRead}
-use Rattle.records.specs.Rules.{NumberRule, Row, empty, next, BreaksOff, SoundSegments, HeadStands, HeadRule, SegmentRule, ReadRule, head-ten-eleven, one-to-four, eight, segment-ten-eleven, five-to-seven, twelve, good}
+use Rattle.net.specs.Rules.{HeadRule, SegmentRule}
+use Rattle.records.specs.Rules.{NumberRule, Row, empty, next, BreaksOff, SoundSegments, HeadStands, ReadRule, head-ten-eleven, one-to-four, eight, segment-ten-eleven, five-to-seven, twelve, good}
 use Rattle.records.proofs.Lines.{head-only, head-rule, segment-only, segment-rule}
 use Rattle.records.proofs.RuledNumbers.{number-only, number-answers}
 use Rattle.records.proofs.Steps.{triple-is, triple-first, triple-second, triple-third, triple-all, heading-is, heading-by, heading-stops, heading-fourth, heading-fifth, heading-all, segmentFrom, segment-stops, segment-refused, segment-all}

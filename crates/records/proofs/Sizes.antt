@@ -12,18 +12,15 @@ use lib.ListN.{length, take, length-append}
 use lib.Seq.{take-all}
 use borrow.Author.Tests.{ltb-true, ltb-false}
 use Rattle.net.specs.Words.{each}
-use Rattle.net.specs.Net.{Net, every, segmentAt}
-use Rattle.net.specs.Refusals.{Line, first, headLines, segmentLines, presentLines, allSegmentLines, netLines, checkedOf}
+use Rattle.net.specs.Net.{every, segmentAt}
+use Rattle.net.specs.Refusals.{Line, first, segmentLines, presentLines, allSegmentLines, checkedOf}
 use Rattle.net.specs.declared.Segment.{Segment}
 use Rattle.net.specs.declared.Refusal.{Refusal}
 use Rattle.net.specs.declared.Checked.{Checked}
 use Rattle.net.specs.declared.Checked.the-variants.{Sound, Refused}
-use Rattle.net.specs.Rules.{NetSound}
 use Rattle.records.specs.Writing.{segmentWritten, segmentsWritten}
 use Rattle.records.specs.Answers.{sizedOf}
 use Rattle.records.specs.declared.writing.Sized.the-variants.{Size, Refused as SizeRefused}
-use Rattle.records.specs.Rules.{nothing}
-use Rattle.records.proofs.Lines.{head-only, head-sound, segment-only, segment-sound}
 use Rattle.records.proofs.Puts.{segments-next, taken-at}
 
 -- the first of two runs of lines
@@ -92,22 +89,6 @@ module _ (posts : ℕ) (ss : List Segment) where
           let q : i ≡ n = (let l = ltb-false i n g in omega arith) in
           rw lines-step (first-none (linesTo n) (linesOf n) (rw q at e) ∙ (rw q at f))
 
-  pub lines-none : (n i : ℕ) → i < n → first (linesTo n) ≡ none → first (linesOf i) ≡ none
-  lines-none zero i h e = absurd (omega arith)
-  lines-none (suc n) i h e = go (ltb i n) refl (lines-none n i)
-    where
-      both : (first (linesTo n) ≡ none) × (first (linesOf n) ≡ none)
-      both = both-none (linesTo n) (linesOf n) (rw lines-step at e)
-
-      go : (t : Bool) → ltb i n ≡ t → (i < n → first (linesTo n) ≡ none → first (linesOf i) ≡ none) → first (linesOf i) ≡ none
-      go true g on = on (ltb-true _ _ g) (both .0)
-      go false g on = let q : i ≡ n = (let l = ltb-false i n g in omega arith) in rw q (both .1)
-
-  lines-all : (n : ℕ) → ((i : ℕ) → i < n → first (linesOf i) ≡ none) → first (linesTo n) ≡ none
-  unfolding first
-  lines-all zero h = refl
-  lines-all (suc n) h = rw lines-step (first-none (linesTo n) (linesOf n) (lines-all n (λ i l. h i (omega arith))) ∙ h n (omega arith))
-
   -- THE LOOP: none of 5 to 7 holds of the first i segments, and they take `size` bytes
   pub record SizedTo (size place i : ℕ) : Type 0 where
     pub few : i ≤ length ss
@@ -155,26 +136,3 @@ module _ (posts : ℕ) (ss : List Segment) where
 pub taken-as : (segs : List Segment) (count : ℕ) → count ≤ 2048 → length segs ≡ 2048 → (i : ℕ) → i < count → {a b : ℕ} → a ≡ (segmentAt segs i) .a → b ≡ (segmentAt segs i) .b
     → record { a = a; b = b; length = (segmentAt segs i) .length } ≡ segmentAt (take count segs) i
 taken-as segs count few size i h p q = rw (p, q) (sym (taken-at segs count few size i h))
-
--- A NET THAT IS NOT REFUSED BY 1 TO 7 IS SOUND, and the other way round; m is the number of segments that is claimed
-module _ (n : Net) (m : ℕ) where
-  lines-apart : netLines every m n ≡ headLines (n .head) m ++ allSegmentLines every (n .head .posts) (n .segments)
-  unfolding netLines
-  lines-apart = refl
-
-  pub sound-of : first (netLines every m n) ≡ none → NetSound every m n
-  sound-of e =
-      let b = both-none (headLines (n .head) m) (allSegmentLines every (n .head .posts) (n .segments)) (rw lines-apart at e) in
-      let h = head-sound (n .head) m (b .0) in
-      record {
-        head-sound = h .0;
-        few-segments = h .1;
-        segments-sound = λ j l _. segment-sound (n .head .posts) _ j (lines-none (n .head .posts) (n .segments) (length (n .segments)) j l (rw lines-are at (b .1)));
-      }
-
-  pub none-of : NetSound every m n → first (netLines every m n) ≡ none
-  none-of s =
-      rw lines-apart
-      (first-none (headLines (n .head) m) _ (head-only (n .head) m (nothing (s .head-sound) (s .few-segments)))
-      ∙ rw lines-are
-      (lines-all (n .head .posts) (n .segments) (length (n .segments)) (λ j l. segment-only (n .head .posts) _ j (nothing (s .segments-sound j l refl)))))

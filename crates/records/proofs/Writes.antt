@@ -9,9 +9,9 @@ use native.Mathlib.Omega.{arith}
 use lib.ListN.{length, take, length-append}
 use lib.Dec.{ltb}
 use borrow.Author.Tests.{ltb-true, ltb-false, lt-ltb, le-ltb}
-use Rattle.net.specs.Net.{Net, netOf, every, segmentAt, mostSegments}
+use Rattle.net.specs.Net.{Net, netOf, every}
 use Rattle.net.specs.Refusals.{refusal, first, headLines, allSegmentLines, netLines, checkedOf}
-use Rattle.net.specs.Rules.{HeadSound, SegmentSound}
+use Rattle.net.specs.Rules.{NetSound}
 use Rattle.net.specs.declared.Segment.{Segment}
 use Rattle.net.specs.declared.Head.{Head}
 use Rattle.net.specs.declared.Refusal.{Refusal}
@@ -24,9 +24,10 @@ use Rattle.records.specs.declared.writing.Sized.{Sized}
 use Rattle.records.specs.declared.writing.Sized.the-variants.{Size, Refused as SizeRefused}
 use Rattle.records.specs.declared.writing.WriteAnswer.the-variants.{Written, Refused as WriteRefused}
 use Rattle.records.proofs.Loops.{size-one, size-two, size-three, size-four}
-use Rattle.records.proofs.Lines.{head-sound, segment-sound}
+use Rattle.records.proofs.Lines.{head-sound}
+use Rattle.net.proofs.Faults.{net-sound}
 use Rattle.records.proofs.Puts.{wrote-more, wrote-first, put-onto, segment-length, taken-length}
-use Rattle.records.proofs.Sizes.{first-none, first-some, both-none, refused-lines, sound-lines, lines-are, lines-none}
+use Rattle.records.proofs.Sizes.{first-none, first-some, refused-lines, sound-lines}
 
 -- HOW LONG A RECORD CAN BE, by its numbers alone
 pub size-most : (n : ℕ) → length (written n) ≤ 4
@@ -103,20 +104,14 @@ module _ (head : Head) (count : ℕ) (segs : List Segment) where
 
   -- A NET THAT IS NOT REFUSED BY 1 TO 7
   module _ (size : ℕ) (array : length segs ≡ 2048) (fits : NetFits net count size) where
-    apart-none : (first (headLines head count) ≡ none) × (first (allSegmentLines every (head .posts) ss) ≡ none)
-    apart-none = both-none _ _ (rw lines-apart at (fits .not-refused))
-
-    sound : HeadSound head × (count ≤ mostSegments)
-    sound = head-sound head count (apart-none .0)
+    sound : NetSound every count net
+    sound = (net-sound every count net) .0 (fits .not-refused)
 
     pub sound-few : count ≤ 2048
-    sound-few = (sound) .1
+    sound-few = (sound) .few-segments
 
     pub size-few : size ≤ 24576
     size-few = let e = fits .size-is in omega (arith, sound-few, segments-most ss, taken-length segs count sound-few array)
-
-    segment-is-sound : (i : ℕ) → i < length ss → SegmentSound (head .posts) (segmentAt ss i)
-    segment-is-sound i h = segment-sound _ _ _ (lines-none (head .posts) ss (length ss) i h (rw lines-are at (apart-none .1)))
 
     written-is : netWritten net ≡ headWritten head count ++ segmentsWritten ss
     unfolding netWritten
@@ -127,7 +122,7 @@ module _ (head : Head) (count : ℕ) (segs : List Segment) where
 
     pub head-fits : {room : ℕ} → length (headWritten head count) ≤ room → HeadFits head count room
     head-fits h =
-        let s = (sound) .0 in
+        let s = (sound) .head-sound in
         let f = s .posts-sound .few-posts in
         let g = s .source-in in
         let p = s .small-p in
@@ -146,7 +141,7 @@ module _ (head : Head) (count : ℕ) (segs : List Segment) where
     segments-fit h =
         let e = fits .size-is in
         record {
-          few-lengths = λ i l. (let s = (segment-is-sound i l) .not-too-long in omega arith);
+          few-lengths = λ i l. (let s = ((sound) .segments-sound i l refl) .not-too-long in omega arith);
           room-long = omega arith;
         }
 

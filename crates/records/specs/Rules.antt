@@ -1,33 +1,19 @@
--- Reading a record as rules, one constructor for each refusal with its place, without tests and without an order of work: each says that nothing before it
--- holds. proofs/Ruled proves that every record has an answer by these rules, that it has no other, and that `Reading` computes it.
+-- Reading and writing a record as rules, one constructor for each refusal with its place, without tests and without an order of work: each says that nothing
+-- before it holds. proofs/Ruled and proofs/RuledWriting prove that every record and every net has an answer by these rules, that it has no other, and that
+-- `Reading` and `Writing` compute it.
 use Prim.Native.Nat.{ℕ, _+_, _<_, _≤_}
 use mathlib.Core.Path.{_≡_}
-use mathlib.Core.Logic.{_⊎_}
 use mathlib.Core.List.{List, [], _∷_, _++_}
 use mathlib.Core.Option.{Option, none, some}
 use lib.ListN.{length, getD, drop}
-use Rattle.net.specs.Net.{Net, mostPosts, mostSegments, longest, mostRatio}
+use Rattle.net.specs.Net.{Net, every}
 use Rattle.net.specs.Refusals.{refusal}
-use Rattle.net.specs.Rules.{PostsSound, HeadSound, EndsSound, SegmentSound}
+use Rattle.net.specs.Rules.{HeadRule, SegmentRule, NetSound, Faulty}
 use Rattle.net.specs.declared.Segment.{Segment}
 use Rattle.net.specs.declared.Head.{Head}
 use Rattle.net.specs.declared.Refusal.{Refusal}
 use Rattle.records.specs.Numbers.{mostNumbers, written, Got, got, refused}
-
--- 1 to 4 of a head, whose net has m segments
-pub data HeadRule (h : Head) (m : ℕ) : Option Refusal → Type 0 where
-  one : (h .posts ≡ 0) ⊎ (mostPosts < h .posts) → HeadRule h m (some (refusal 1 0))
-  two : PostsSound h → h .posts ≤ h .source → HeadRule h m (some (refusal 2 0))
-  three : PostsSound h → h .source < h .posts → (h .q ≡ 0) ⊎ ((mostRatio < h .p) ⊎ (mostRatio < h .q)) → HeadRule h m (some (refusal 3 0))
-  four : HeadSound h → mostSegments < m → HeadRule h m (some (refusal 4 0))
-  nothing : HeadSound h → m ≤ mostSegments → HeadRule h m none
-
--- 5 to 7 of segment i
-pub data SegmentRule (posts : ℕ) (s : Segment) (i : ℕ) : Option Refusal → Type 0 where
-  five : (posts ≤ s .a) ⊎ (posts ≤ s .b) → SegmentRule posts s i (some (refusal 5 i))
-  six : EndsSound posts s → s .a ≡ s .b → SegmentRule posts s i (some (refusal 6 i))
-  seven : EndsSound posts s → (s .a ≡ s .b → ⊥) → (s .length ≡ 0) ⊎ (longest < s .length) → SegmentRule posts s i (some (refusal 7 i))
-  nothing : SegmentSound posts s → SegmentRule posts s i none
+use Rattle.records.specs.Writing.{netWritten}
 
 -- the bytes w stand from one offset to another
 pub record Stand (bytes : List ℕ) (at : ℕ) (w : List ℕ) (next : ℕ) : Type 0 where
@@ -84,3 +70,9 @@ module _ (bytes : List ℕ) where
         → SoundSegments (h .posts) start ss at → at < length bytes → ReadRule room (refused (refusal 12 at))
     good : {h : Head} {start at : ℕ} {ss : List Segment} → HeadStands h (length ss) start → HeadRule h (length ss) none → length ss ≤ room
         → SoundSegments (h .posts) start ss at → length bytes ≤ at → ReadRule room (got (record { head = h; segments = ss }) at)
+
+-- A NET, written into a lent room: "Writing: 1 to 7, then 18." m is the number of segments that is claimed
+pub data WriteRule (m : ℕ) (n : Net) (room : ℕ) : Option Refusal → Type 0 where
+  one-to-seven : {r : Refusal} → Faulty every m n r → WriteRule m n room (some r)
+  eighteen : NetSound every m n → room < length (netWritten n) → WriteRule m n room (some (refusal 18 0))
+  nothing : NetSound every m n → length (netWritten n) ≤ room → WriteRule m n room none

@@ -1,7 +1,8 @@
 use borrow.Author.Needs.{needs}
 use mathlib.Core.Path.{_∙_}
 use mathlib.Core.Logic.{inl, inr}
-use Rattle.net.proofs.Faults.{gives-5, gives-6, gives-7, sound-segment}
+use Rattle.net.proofs.Faults.{segment-first}
+use Rattle.net.specs.Rules.{five, six, seven, nothing}
 use Rattle.net.proofs.Checks.{end-out, end-in, not-apart, is-apart, outside, inside, refused-by, sound-by}
 use Rattle.net.proofs.check_segment.Statement.{statement}
 use Rattle.net.proofs.check_segment.Tie as tie
@@ -21,7 +22,7 @@ refuse-requires c κs = search needs
 
 -- src/lib.rt:106:9
 returns : tie.Need-returns
-returns c = c .refuse .ensures ∙ refused-by (gives-5 _ _ _ (inl (end-out (c .before .before .wide .ensures) _ (c .before .if1 .taken))))
+returns c = c .refuse .ensures ∙ refused-by (segment-first _ _ _ (five (inl (end-out (c .before .before .wide .ensures) _ (c .before .if1 .taken)))))
 
 -- src/lib.rt:108:10
 wide-requires-2 : tie.Need-wide-requires-2
@@ -33,7 +34,7 @@ refuse-requires-2 c κs = search needs
 
 -- src/lib.rt:109:9
 returns-2 : tie.Need-returns-2
-returns-2 c = c .refuse2 .ensures ∙ refused-by (gives-5 _ _ _ (inr (end-out (c .before .before .wide2 .ensures) _ (c .before .if2 .taken))))
+returns-2 c = c .refuse2 .ensures ∙ refused-by (segment-first _ _ _ (five (inr (end-out (c .before .before .wide2 .ensures) _ (c .before .if2 .taken)))))
 
 -- src/lib.rt:112:9
 refuse-requires-3 : tie.Need-refuse-requires-3
@@ -41,7 +42,7 @@ refuse-requires-3 c κs = search needs
 
 -- src/lib.rt:112:9
 returns-3 : tie.Need-returns-3
-returns-3 c = c .refuse3 .ensures ∙ refused-by (gives-6 _ _ _ (record { a-in = end-in (c .before .before .before .before .before .before .wide .ensures) _ (c .before .before .before .before .before .if1 .left); b-in = end-in (c .before .before .before .before .wide2 .ensures) _ (c .before .before .before .if2 .left) }) (not-apart _ _ (c .before .if3 .taken)))
+returns-3 c = c .refuse3 .ensures ∙ refused-by (segment-first _ _ _ (six (record { a-in = end-in (c .before .before .before .before .before .before .wide .ensures) _ (c .before .before .before .before .before .if1 .left); b-in = end-in (c .before .before .before .before .wide2 .ensures) _ (c .before .before .before .if2 .left) }) (not-apart _ _ (c .before .if3 .taken))))
 
 -- src/lib.rt:114:9
 within-requires : tie.Need-within-requires
@@ -53,11 +54,11 @@ refuse-requires-4 c κs = search needs
 
 -- src/lib.rt:115:9
 returns-4 : tie.Need-returns-4
-returns-4 c = c .refuse4 .ensures ∙ refused-by (gives-7 _ _ _ (record { a-in = end-in (c .before .before .before .before .before .before .before .before .wide .ensures) _ (c .before .before .before .before .before .before .before .if1 .left); b-in = end-in (c .before .before .before .before .before .before .wide2 .ensures) _ (c .before .before .before .before .before .if2 .left) }) (is-apart _ _ (c .before .before .before .if3 .left)) (outside _ _ (c .before .before .within .ensures) (c .before .if4 .taken)))
+returns-4 c = c .refuse4 .ensures ∙ refused-by (segment-first _ _ _ (seven (record { a-in = end-in (c .before .before .before .before .before .before .before .before .wide .ensures) _ (c .before .before .before .before .before .before .before .if1 .left); b-in = end-in (c .before .before .before .before .before .before .wide2 .ensures) _ (c .before .before .before .before .before .if2 .left) }) (is-apart _ _ (c .before .before .before .if3 .left)) (outside _ _ (c .before .before .within .ensures) (c .before .if4 .taken))))
 
 -- src/lib.rt:102:1
 returns-5 : tie.Need-returns-5
-returns-5 c = let z = inside _ _ (c .before .within .ensures) (c .if4 .left) in sound-by (sound-segment _ _ _ (record { ends-sound = record { a-in = end-in (c .before .before .before .before .before .before .before .wide .ensures) _ (c .before .before .before .before .before .before .if1 .left); b-in = end-in (c .before .before .before .before .before .wide2 .ensures) _ (c .before .before .before .before .if2 .left) }; apart = is-apart _ _ (c .before .before .if3 .left); some-length = z .0; not-too-long = z .1 }))
+returns-5 c = let z = inside _ _ (c .before .within .ensures) (c .if4 .left) in sound-by (segment-first _ _ _ (nothing (record { ends-sound = record { a-in = end-in (c .before .before .before .before .before .before .before .wide .ensures) _ (c .before .before .before .before .before .before .if1 .left); b-in = end-in (c .before .before .before .before .before .wide2 .ensures) _ (c .before .before .before .before .if2 .left) }; apart = is-apart _ _ (c .before .before .if3 .left); some-length = z .0; not-too-long = z .1 })))
 
 pub check-segment-spec : {M : Type 1} → statement M
 check-segment-spec =

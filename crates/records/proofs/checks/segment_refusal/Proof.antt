@@ -4,7 +4,7 @@ use mathlib.Core.Logic.{inl, inr}
 use native.Mathlib.Omega.{arith}
 use borrow.Author.Needs.{needs}
 use Rattle.net.specs.Refusals.{checkedOf}
-use Rattle.records.specs.Rules.{five, six, seven, nothing}
+use Rattle.net.specs.Rules.{five, six, seven, nothing}
 use Rattle.records.proofs.Lines.{segment-only}
 use Rattle.records.proofs.checks.segment_refusal.Statement.{statement}
 use Rattle.records.proofs.checks.segment_refusal.Tie as tie

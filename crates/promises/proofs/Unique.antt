@@ -1,0 +1,39 @@
+-- Two outcomes of an entry are equal: the laws of the crates, in one place.
+use mathlib.Core.List.{List}
+use Prim.Native.Nat.{ℕ}
+use lib.ListN.{length}
+use Rattle.net.specs.Net.{Net}
+use Rattle.net.proofs.Checks.{check-head-one, check-segment-one, check-one}
+use Rattle.lent.specs.Lists.{netOn}
+use Rattle.looms.proofs.Unique.{build-one, margin-one}
+use Rattle.records.proofs.Outcomes.{number-at-unique, read-array-unique, write-array-unique}
+use Rattle.droverboot.proofs.Unique.{read-one}
+use Rattle.drawn.proofs.Rules.{same-outcome}
+use Rattle.promises.specs.Unique.{OneBuilding, OneMargin, OneWriting, Unique}
+
+one-building : (n : Net) (m : ℕ) → OneBuilding n m
+one-building n m l s w a b l′ l₂ s′ s₂ w′ w₂ p q = let e = build-one n m l s w p q in (e .answers, e .lightest, e .shortest, e .between)
+
+one-margin : (n : Net) (m : ℕ) → OneMargin n m
+one-margin n m t post a b = margin-one n m t post
+
+one-writing : (n : Net) (m : ℕ) → OneWriting n m
+one-writing n m = write-array-unique n m
+
+pub unique : Unique
+unique =
+    record {
+      build = λ h segments. one-building (netOn h segments) (length segments);
+      margin = λ h segments. one-margin (netOn h segments) (length segments);
+      write = λ h segments. one-writing (netOn h segments) (length segments);
+      read = read-one;
+      drawn = λ run. same-outcome run _ _;
+      build-array = one-building;
+      margin-array = one-margin;
+      write-array = one-writing;
+      read-array = λ bytes room. read-array-unique bytes room _ _;
+      number-at = λ bytes at. number-at-unique bytes at _ _;
+      check-head = check-head-one;
+      check-segment = check-segment-one;
+      check = check-one;
+    }

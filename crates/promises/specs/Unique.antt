@@ -1,0 +1,59 @@
+-- "For each, prove that two outcomes allowed by it are equal": of every entry, whatever is lent to it, two answers that its contract allows are equal, and so is
+-- what every lent list holds afterwards. First the entries over lent lists, then those over arrays that stand below them. A contract is cited as its function has it.
+use mathlib.Core.Path.{_≡_}
+use mathlib.Core.List.{List}
+use Prim.Native.Nat.{ℕ}
+use lib.ListN.{length}
+use Rattle.net.specs.Net.{Net, every, segmentsOf}
+use Rattle.net.specs.Refusals.{checkedOf, first, headLines, segmentLines, checkOf}
+use Rattle.net.specs.Building.{marginOf}
+use Rattle.net.specs.declared.Head.{Head}
+use Rattle.net.specs.declared.Segment.{Segment}
+use Rattle.net.specs.declared.Tree.{Tree}
+use Rattle.net.specs.declared.Checked.{Checked}
+use Rattle.lent.specs.Lists.{netOn}
+use Rattle.looms.specs.Answers.{Leaves, marginAnswerOf}
+use Rattle.looms.specs.declared.Answer.{Answer}
+use Rattle.looms.specs.declared.MarginAnswer.{MarginAnswer}
+use Rattle.records.specs.Numbers.{number}
+use Rattle.records.specs.Reading.{netRead}
+use Rattle.records.specs.Answers.{numberedOf, readArrayOf, Writes}
+use Rattle.records.specs.declared.numbers.Numbered.{Numbered}
+use Rattle.records.specs.declared.reading.ReadArray.{ReadArray}
+use Rattle.records.specs.declared.reading.ReadAnswer.{ReadAnswer}
+use Rattle.records.specs.declared.writing.WriteAnswer.{WriteAnswer}
+use Rattle.droverboot.specs.Reading.{Reads}
+use Rattle.drawn.specs.Drawn.{drawnOf}
+use Rattle.drawn.specs.declared.Run.{Run}
+use Rattle.drawn.specs.declared.Answer.{Answer as Drawn}
+
+-- building a net that claims m segments: the answer and the three lists
+abbrev pub OneBuilding : Net → ℕ → Type 0
+OneBuilding n m = (l s w : List ℕ) (a b : Answer) (l′ l₂ s′ s₂ w′ w₂ : List ℕ) → Leaves n m l s w a l′ s′ w′ → Leaves n m l s w b l₂ s₂ w₂
+    → (a ≡ b) × (l′ ≡ l₂) × (s′ ≡ s₂) × (w′ ≡ w₂)
+
+-- the margin of a post of such a net
+abbrev pub OneMargin : Net → ℕ → Type 0
+OneMargin n m = (t : Tree) (post : ℕ) (a b : MarginAnswer) → a ≡ marginAnswerOf (marginOf every n m t post) → b ≡ marginAnswerOf (marginOf every n m t post) → a ≡ b
+
+-- writing such a net: the answer and the room
+abbrev pub OneWriting : Net → ℕ → Type 0
+OneWriting n m = (room : List ℕ) (a b : WriteAnswer) (x y : List ℕ) → Writes n m room a x → Writes n m room b y → (a ≡ b) × (x ≡ y)
+
+pub record Unique : Type 0 where
+  -- over lent lists
+  pub build : (h : Head) (segments : List Segment) → OneBuilding (netOn h segments) (length segments)
+  pub margin : (h : Head) (segments : List Segment) → OneMargin (netOn h segments) (length segments)
+  pub write : (h : Head) (segments : List Segment) → OneWriting (netOn h segments) (length segments)
+  pub read : (bytes : List ℕ) (l : List Segment) {a b : ReadAnswer} {l′ l₂ : List Segment} → Reads bytes l a l′ → Reads bytes l b l₂ → (a ≡ b) × (l′ ≡ l₂)
+  pub drawn : (run : Run) {a b : Drawn} → a ≡ drawnOf run → b ≡ drawnOf run → a ≡ b
+  -- over arrays
+  pub build-array : (n : Net) (m : ℕ) → OneBuilding n m
+  pub margin-array : (n : Net) (m : ℕ) → OneMargin n m
+  pub write-array : (n : Net) (m : ℕ) → OneWriting n m
+  pub read-array : (bytes : List ℕ) (room : ℕ) {a b : ReadArray} → a ≡ readArrayOf (netRead bytes room 0) → b ≡ readArrayOf (netRead bytes room 0) → a ≡ b
+  pub number-at : (bytes : List ℕ) (at : ℕ) {a b : Numbered} → a ≡ numberedOf (number bytes at) → b ≡ numberedOf (number bytes at) → a ≡ b
+  -- checks 1 to 7
+  pub check-head : (h : Head) (count : ℕ) {a b : Checked} → a ≡ checkedOf (first (headLines h count)) → b ≡ checkedOf (first (headLines h count)) → a ≡ b
+  pub check-segment : (posts : ℕ) (s : Segment) (i : ℕ) {a b : Checked} → a ≡ checkedOf (first (segmentLines posts s i)) → b ≡ checkedOf (first (segmentLines posts s i)) → a ≡ b
+  pub check : (h : Head) (xs ys ls : List ℕ) {a b : Checked} → a ≡ checkOf h (segmentsOf xs ys ls) → b ≡ checkOf h (segmentsOf xs ys ls) → a ≡ b
