@@ -3,6 +3,7 @@
 pub mod Params
 pub mod Thin
 pub mod Steps
+pub mod Held
 pub mod Loops
 pub mod Walk
 pub mod Types

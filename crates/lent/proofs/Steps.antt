@@ -103,7 +103,7 @@ module _ {M : Type 1} (𝓤 : URA M) (H : Heap 𝓤) (A : Atoms 𝓤) (E : Env �
 
 module _ {M : Type 1} {𝓤 : URA M} {H : Heap 𝓤} {A : Atoms 𝓤} {K : Type 0} {W : Given 𝓤 H A} where
   -- a part of the context, as one entry, and back; at the head, and behind it
-  to-one : K → (R : List (Item 𝓤)) {Γ : List (Item 𝓤)} {G : Goal 𝓤 H} → Step K W (raw (⋆ 𝓤 H A R) ∷ Γ) G (R ++ Γ) G
+  pub to-one : K → (R : List (Item 𝓤)) {Γ : List (Item 𝓤)} {G : Goal 𝓤 H} → Step K W (raw (⋆ 𝓤 H A R) ∷ Γ) G (R ++ Γ) G
   to-one t R {Γ} = step (λ s. record { prf = via 𝓤 _ (⊢++ 𝓤 H A R Γ) (via 𝓤 _ (push 𝓤 H A (raw (⋆ 𝓤 H A R)) Γ) (s .prf)) })
 
   of-one : K → (R : List (Item 𝓤)) {Γ : List (Item 𝓤)} {G : Goal 𝓤 H} → Step K W (R ++ Γ) G (raw (⋆ 𝓤 H A R) ∷ Γ) G
@@ -112,7 +112,7 @@ module _ {M : Type 1} {𝓤 : URA M} {H : Heap 𝓤} {A : Atoms 𝓤} {K : Type 
   to-next : K → (R : List (Item 𝓤)) {i : Item 𝓤} {Γ : List (Item 𝓤)} {G : Goal 𝓤 H} → Step K W (i ∷ raw (⋆ 𝓤 H A R) ∷ Γ) G (i ∷ R ++ Γ) G
   to-next t R {i} {Γ} = step (λ s. record { prf = via 𝓤 _ (cons-out 𝓤 H A W i (R ++ Γ) (via 𝓤 _ (⊢++ 𝓤 H A R Γ) (push 𝓤 H A (raw (⋆ 𝓤 H A R)) Γ))) (s .prf) })
 
-  of-next : K → (R : List (Item 𝓤)) {i : Item 𝓤} {Γ : List (Item 𝓤)} {G : Goal 𝓤 H} → Step K W (i ∷ R ++ Γ) G (i ∷ raw (⋆ 𝓤 H A R) ∷ Γ) G
+  pub of-next : K → (R : List (Item 𝓤)) {i : Item 𝓤} {Γ : List (Item 𝓤)} {G : Goal 𝓤 H} → Step K W (i ∷ R ++ Γ) G (i ∷ raw (⋆ 𝓤 H A R) ∷ Γ) G
   of-next t R {i} {Γ} = step (λ s. record { prf = via 𝓤 _ (cons-in 𝓤 H A W i (R ++ Γ) (via 𝓤 _ (pop 𝓤 H A (raw (⋆ 𝓤 H A R)) Γ) (++⊢ 𝓤 H A R Γ))) (s .prf) })
 
   -- an entry goes behind a part, or before it

@@ -8,6 +8,9 @@ pub mod Puts
 pub mod Sizes
 pub mod Writes
 pub mod Steps
+pub mod Carried
+pub mod Readers
+pub mod ReaderCalls
 pub mod Passes
 pub mod Parsed
 pub mod Runs

@@ -10,7 +10,7 @@ use Rattle.net.specs.Refusals.{refusal, first, allSegmentLines}
 use Rattle.net.specs.declared.Segment.{Segment}
 use Rattle.net.specs.declared.Refusal.{Refusal}
 use Rattle.records.specs.Numbers.{Got, got, refused}
-use Rattle.records.specs.Reading.{Triple, Heading}
+use Rattle.records.specs.Reading.{andThen, Triple, Heading}
 use Rattle.records.specs.Writing.{segmentsWritten, netWritten, writeRefusal, roomAfter}
 use Rattle.records.specs.declared.numbers.Numbered.{Numbered}
 use Rattle.records.specs.declared.numbers.Numbered.the-variants.{Number, Refused as NumberRefused}
@@ -48,14 +48,30 @@ abbrev pub saysNumbered : Numbered → Got ℕ
 saysNumbered (Number n next) = got n next
 saysNumbered (NumberRefused number place) = refused (refusal number place)
 
+-- the offset after a number; of a refusal, the offset where the number begins
+abbrev pub behindOf : Numbered → ℕ
+behindOf (Number n next) = next
+behindOf (NumberRefused number place) = place
+
 -- READING: three numbers, a head, a segment, or the refusal
 abbrev pub threeOf : Got Triple → Three
 threeOf (got t next) = Numbers (t .one) (t .two) (t .three) next
 threeOf (refused r) = ThreeRefused r
 
+-- the answers of three numbers in a row, or the first refusal among them
+unfoldable pub tripleOf : Numbered → Numbered → Numbered → Got Triple
+tripleOf first second third =
+    andThen (saysNumbered first) (λ a _. andThen (saysNumbered second) (λ b _. andThen (saysNumbered third) (λ c next. got (record { one = a; two = b; three = c }) next)))
+
 abbrev pub headReadOf : Got Heading → HeadRead
 headReadOf (got h next) = ReadHead (h .head) (h .count) next
 headReadOf (refused r) = HeadRefused r
+
+-- the answers of a head's five numbers, or the first refusal among them
+unfoldable pub headingOf : Numbered → Numbered → Numbered → Numbered → Numbered → Got Heading
+headingOf posts source p q count =
+    andThen (tripleOf posts source p) (λ t _. andThen (saysNumbered q) (λ d _. andThen (saysNumbered count) (λ m next.
+    got (record { head = record { posts = t .one; source = t .two; p = t .three; q = d }; count = m }) next)))
 
 abbrev pub segmentReadOf : Got Segment → SegmentRead
 segmentReadOf (got s next) = ReadSegment s next

@@ -3,5 +3,6 @@
 // record is found good. What each function promises is an equation with a definition of specs/; the round trips stand in proofs/.
 mod checks;
 pub mod numbers;
+pub mod reader;
 pub mod reading;
 pub mod writing;

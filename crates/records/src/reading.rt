@@ -2,7 +2,10 @@
 // What is read stands in an array of its own, and a refusal leaves it zero: nothing is stored before the whole record is found good.
 use crate::checks::segment_refusal;
 use crate::numbers::Numbered;
-use crate::numbers::number_at;
+use crate::reader::behind;
+use crate::reader::moved;
+use crate::reader::new;
+use crate::reader::number;
 use net::Checked;
 use net::Head;
 use net::Refusal;
@@ -14,7 +17,7 @@ ghost use lib.ListN.{replicate};
 ghost use Rattle.net.specs.Net.{beyond};
 ghost use Rattle.net.specs.Refusals.{refusal};
 ghost use Rattle.records.specs.Reading.{triple, heading, segment, segments, restRead, netRead};
-ghost use Rattle.records.specs.Answers.{threeOf, headReadOf, segmentReadOf, segmentsReadOf, readArrayOf};
+ghost use Rattle.records.specs.Answers.{behindOf, threeOf, tripleOf, headReadOf, headingOf, segmentReadOf, segmentsReadOf, readArrayOf};
 
 // Three numbers in a row and the place after them, or the refusal.
 enum Three {
@@ -80,30 +83,61 @@ fn no_segments() -> [Segment; 2048]
     }; 2048]
 }
 
+// Three numbers in a row, or the first refusal among them.
+fn three_of(first: Numbered, second: Numbered, third: Numbered) -> Three
+    requires { ⌜ (behindOf first < 4294967296) × ((behindOf second < 4294967296) × (behindOf third < 4294967296)) ⌝ }
+    ensures { λ r. ⌜ r ≡ threeOf (tripleOf first second third) ⌝ }
+{
+    match first {
+        Numbered::Refused { number, place } => Three::Refused(refusal_at(number, place)),
+        Numbered::Number { value: a, next: _ } => match second {
+            Numbered::Refused { number, place } => Three::Refused(refusal_at(number, place)),
+            Numbered::Number { value: b, next: _ } => match third {
+                Numbered::Refused { number, place } => Three::Refused(refusal_at(number, place)),
+                Numbered::Number { value: c, next } => Three::Numbers { a, b, c, next },
+            },
+        },
+    }
+}
+
 // Three numbers in a row, from the byte `at` on, which lies within what a record can be long.
 fn three_at(bytes: &[u8], at: usize) -> Three
     requires { ⌜ at ≤ 1000000 ⌝ }
     ensures { λ r. ⌜ r ≡ threeOf (triple (now (bytes .entry)) at) ⌝ }
 {
-    let first = number_at(bytes, at);
-    match first {
-        Numbered::Refused { number, place } => Three::Refused(refusal_at(number, place)),
-        Numbered::Number { value: a, next } => {
-            let second = number_at(bytes, next);
-            match second {
-                Numbered::Refused { number, place } => Three::Refused(refusal_at(number, place)),
-                Numbered::Number { value: b, next } => {
-                    let third = number_at(bytes, next);
-                    match third {
-                        Numbered::Refused { number, place } => Three::Refused(refusal_at(
-                            number,
-                            place,
-                        )),
-                        Numbered::Number { value: c, next } => Three::Numbers { a, b, c, next },
-                    }
-                }
-            }
-        }
+    let at_first = moved(new(bytes), at);
+    let first = number(at_first);
+    let at_second = moved(at_first, behind(first));
+    let second = number(at_second);
+    let at_third = moved(at_second, behind(second));
+    let third = number(at_third);
+    three_of(first, second, third)
+}
+
+// The head of five numbers, or the first refusal among them.
+fn head_of(posts: Numbered, source: Numbered, p: Numbered, q: Numbered, count: Numbered) -> HeadRead
+    requires { ⌜ (behindOf posts < 4294967296) × ((behindOf source < 4294967296) × ((behindOf p < 4294967296) × ((behindOf q < 4294967296) × (behindOf count < 4294967296)))) ⌝ }
+    ensures { λ r. ⌜ r ≡ headReadOf (headingOf posts source p q count) ⌝ }
+{
+    let three = three_of(posts, source, p);
+    match three {
+        Three::Refused(r) => HeadRead::Refused(r),
+        Three::Numbers { a, b, c, next: _ } => match q {
+            Numbered::Refused { number, place } => HeadRead::Refused(refusal_at(number, place)),
+            Numbered::Number { value: d, next: _ } => match count {
+                Numbered::Refused { number, place } => HeadRead::Refused(refusal_at(number, place)),
+                Numbered::Number { value, next } => HeadRead::Read {
+                    head: Head {
+                        posts: a,
+                        source: b,
+                        p: c,
+                        q: d,
+                    },
+                    count: value,
+                    next,
+                },
+            },
+        },
     }
 }
 
@@ -111,35 +145,17 @@ fn three_at(bytes: &[u8], at: usize) -> Three
 fn head_at(bytes: &[u8]) -> HeadRead
     ensures { λ r. ⌜ r ≡ headReadOf (heading (now (bytes .entry)) 0) ⌝ }
 {
-    let three = three_at(bytes, 0);
-    match three {
-        Three::Refused(r) => HeadRead::Refused(r),
-        Three::Numbers { a, b, c, next } => {
-            let fourth = number_at(bytes, next);
-            match fourth {
-                Numbered::Refused { number, place } => HeadRead::Refused(refusal_at(number, place)),
-                Numbered::Number { value: q, next } => {
-                    let fifth = number_at(bytes, next);
-                    match fifth {
-                        Numbered::Refused { number, place } => HeadRead::Refused(refusal_at(
-                            number,
-                            place,
-                        )),
-                        Numbered::Number { value: count, next } => HeadRead::Read {
-                            head: Head {
-                                posts: a,
-                                source: b,
-                                p: c,
-                                q,
-                            },
-                            count,
-                            next,
-                        },
-                    }
-                }
-            }
-        }
-    }
+    let at_posts = new(bytes);
+    let posts = number(at_posts);
+    let at_source = moved(at_posts, behind(posts));
+    let source = number(at_source);
+    let at_p = moved(at_source, behind(source));
+    let p = number(at_p);
+    let at_q = moved(at_p, behind(p));
+    let q = number(at_q);
+    let at_count = moved(at_q, behind(q));
+    let count = number(at_count);
+    head_of(posts, source, p, q, count)
 }
 
 // Segment `i`: "its two posts in the order given and its length", then 5, 6, 7.

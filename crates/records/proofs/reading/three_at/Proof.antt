@@ -1,76 +1,70 @@
--- `three_at` meets its contract: three numbers in a row, or the first refusal. Assumes nothing.
-use native.Mathlib.Omega.{arith}
-use borrow.Author.Needs.{needs}
-use Rattle.records.proofs.Groups.{number-next, number-place}
-use Rattle.records.proofs.Steps.{number-stops, number-gives, triple-first, triple-second, triple-third, triple-all, three-refused, three-read}
-use Rattle.records.proofs.reading.three_at.Statement.{statement}
-use Rattle.records.proofs.reading.three_at.Tie as tie
+-- `three_at` meets its contract: a walk of its MIR, by hand. A reader is made of the bytes, moved to the place, and carried through three numbers; before each call
+-- it is copied into a local of its own. What the three answers come to is left to `three_of`. Assumes nothing.
+use Rattle.lent.proofs.Walk.{_≡_, _≤_, refl, ap, _∙_, List, [], _∷_, URA, id⊢, Model, Heap, Tables, factI, GhostRules, Running, givenOf, _$_, !, by, move, keep, look, init, store, stop, from, of-opd, assigns, land, returns, free0, u8, now, Kind, dat, shr, Walk, Over, Callee, callee, solved, begins, at, args, calls, gone}
+use denote.Steps.{heard}
+use types.Kit.{use1}
+use Rattle.lent.proofs.Params.{Data, enum}
+use Rattle.lent.proofs.Held.{own-of}
+use Rattle.lent.proofs.Types as T
+use Rattle.records.specs.Answers.{threeOf, tripleOf}
+use Rattle.records.proofs.Carried.{read, on, three-near, triple-carried}
+use Rattle.records.proofs.Readers.{numbered, bytes, reader-opened}
+use Rattle.records.proofs.ReaderCalls.{reader-at, starts, reads, goes-on, moves}
+use Rattle.records.proofs.reading.Three as Three
+use Rattle.records.proofs.reading.Three.Laws as Three′
+use Rattle.records.proofs.reading.three_of as core
+use Rattle.records.proofs.reading.three_of.Symbol as core-def
+use Rattle.records.proofs.reading.three_of.Met as core-thm
+use Rattle.records.proofs.reading.three_at.Key as key
+use Rattle.records.proofs.reading.three_at as f
+use Rattle.records.proofs.reading.three_at.Statement as stated
+use Rattle.records.proofs.reading.three_at.Code as code
 
-number-at-requires : tie.Need-number-at-requires
-number-at-requires c κs = search needs
+abbrev three : Data
+three = enum Three.the-type tt Three′.the-laws Three′.the-copy Three′.the-plain
 
-enum-known-first : tie.Need-enum-known-first
-enum-known-first c = search needs
+abbrev ks : List (Kind 1)
+ks = shr 0 tt u8 ∷ dat T.usize ∷ []
 
-refusal-at-requires : tie.Need-refusal-at-requires
-refusal-at-requires c κs = omega (arith, number-place _ _ _ (number-stops _ _ _ _ (c .before .before .before .number-at .ensures) (c .before .first .given .1)), c .before .before .before .before .before .pre)
+module _ {M : Type 1} (𝓤 : URA M) (H : Heap 𝓤) (𝓜 : Model 𝓤 H) (𝓖 : GhostRules 𝓤 H) (𝓡 : Running 𝓤 H 𝓜) where
+  abbrev 𝓣 : Tables 𝓤 H
+  𝓣 = Over 𝓤 H 𝓜 𝓖 𝓡 code.env
 
-enum-known-first-2 : tie.Need-enum-known-first-2
-enum-known-first-2 c = search needs
+  abbrev to-core : Callee 𝓤 H (𝓖 .A) (𝓣 .C) core-def.name
+  to-core = callee 𝓤 H 𝓜 𝓖 𝓡 code.env 0 (dat numbered ∷ dat numbered ∷ dat numbered ∷ []) three (core.clauses 𝓤 H (𝓖 .A) (𝓜 .mem) (𝓡 .run)) core-def.name core-def.routine code.calls-records·reading·three-of (core-thm.met 𝓤 H 𝓜 𝓖 𝓡)
 
-number-at-requires-2 : tie.Need-number-at-requires-2
-number-at-requires-2 c κs = search needs
+  walk : Walk 𝓤 H (𝓖 .A) (givenOf 𝓤 H 𝓜 𝓖) 1 ks three (f.clauses 𝓤 H (𝓖 .A) (𝓜 .mem) (𝓡 .run)) 𝓣 code.function
+  walk κs qs a g are ok-args P exit =
+      let s = a .0 in let l = now s in let i₀ = a .1 .0 in let i₁ = on l i₀ in let i₂ = on l i₁ in
+      heard ! (i₀ ≤ 1000000) (λ few. begins ! 𝓣 code.function _ P (λ l₀ l₁ l₂ l₃ l₄ l₅ l₆ l₇ l₈ l₉ l₁₀ l₁₁ l₁₂ l₁₃ l₁₄ l₁₅. (
+        ok-args,
+        -- [_0 … _15; that they die; κ; what the bytes own]
+        (move ! (17 ∷ 18 ∷ []) $ starts 𝓖 𝓡 code.env κs qs ! s code.calls-records·reader·new (args ! 1 (1 ∷ []) (refl, tt)) (λ ok. land ! (from ! (stop !)) (init ! 11 refl ok) $
+            -- [κ; what the reader owns; _0 … _15; that they die]
+            moves 𝓖 𝓡 code.env κs qs ! (reader-at s 0) i₀ (are .1 .0 .1) code.calls-records·reader·moved (args ! 1 (9 ∷ 2 ∷ []) (refl, (refl, tt))) (λ ok₀. land ! (from ! (stop !)) (init ! 5 refl ok₀) $
+            -- _4 = number(_3)
+            assigns ! (of-opd ! (at ! 2 refl)) (from ! (stop !)) (init ! 12 refl ok₀) $ reads 𝓖 𝓡 code.env κs qs ! (reader-at s i₀) code.calls-records·reader·number (args ! 2 (10 ∷ []) (refl, tt)) (λ n₁ fit₁. land ! (from ! (stop !)) (init ! 6 refl (fit₁ .0)) $
+            -- _5 = moved(_3, behind(_4))
+            assigns ! (of-opd ! (at ! 2 refl)) (from ! (stop !)) (init ! 13 refl ok₀) $ goes-on 𝓖 𝓡 code.env ! (read l i₀) n₁ code.calls-records·reader·behind (args ! 3 (4 ∷ []) (refl, tt)) (λ few₁. land ! (from ! (stop !)) (init ! 14 refl (tt, record { fits = few₁ })) $
+            moves 𝓖 𝓡 code.env κs qs ! (reader-at s i₀) i₁ few₁ code.calls-records·reader·moved (args ! 1 (11 ∷ 12 ∷ []) (refl, (refl, tt))) (λ ok₁. land ! (from ! (stop !)) (init ! 7 refl ok₁) $
+            -- _6 = number(_5)
+            assigns ! (of-opd ! (at ! 2 refl)) (from ! (stop !)) (init ! 15 refl ok₁) $ reads 𝓖 𝓡 code.env κs qs ! (reader-at s i₁) code.calls-records·reader·number (args ! 2 (13 ∷ []) (refl, tt)) (λ n₂ fit₂. land ! (from ! (stop !)) (init ! 8 refl (fit₂ .0)) $
+            -- _7 = moved(_5, behind(_6))
+            assigns ! (of-opd ! (at ! 2 refl)) (from ! (stop !)) (init ! 16 refl ok₁) $ goes-on 𝓖 𝓡 code.env ! (read l i₁) n₂ code.calls-records·reader·behind (args ! 3 (6 ∷ []) (refl, tt)) (λ few₂. land ! (from ! (stop !)) (store ! 14 refl (tt, record { fits = few₂ })) $
+            moves 𝓖 𝓡 code.env κs qs ! (reader-at s i₁) i₂ few₂ code.calls-records·reader·moved (args ! 1 (14 ∷ 12 ∷ []) (refl, (refl, tt))) (λ ok₂. land ! (from ! (stop !)) (init ! 9 refl ok₂) $
+            -- _8 = number(_7)
+            assigns ! (of-opd ! (at ! 2 refl)) (from ! (stop !)) (init ! 17 refl ok₂) $ reads 𝓖 𝓡 code.env κs qs ! (reader-at s i₂) code.calls-records·reader·number (args ! 2 (15 ∷ []) (refl, tt)) (λ n₃ fit₃. land ! (from ! (stop !)) (init ! 10 refl (fit₃ .0)) $
+            -- _0 = three_of(_4, _6, _8)
+            calls ! 𝓣 to-core tt tt (read l i₀, (read l i₁, (read l i₂, tt))) tt (n₁, (n₂, (n₃, tt))) (factI 𝓤 _ _ (three-near l i₀ few)) (args ! 4 (4 ∷ 6 ∷ 8 ∷ []) (refl, (refl, (refl, tt))))
+            (λ r ws. r ≡ threeOf (tripleOf (read l i₀) (read l i₁) (read l i₂))) (λ r ws. id⊢ 𝓤 _) (λ r ws is ok e _.
+            land ! (from ! (stop !)) (init ! 2 refl (ok .0)) $ returns ! (look ! 2 refl) $ move ! (18 ∷ 2 ∷ 3 ∷ 4 ∷ 5 ∷ 6 ∷ 7 ∷ 8 ∷ 9 ∷ 10 ∷ 11 ∷ 12 ∷ 13 ∷ 14 ∷ 15 ∷ 16 ∷ 17 ∷ []) $
+            gone ! $ gone ! $ gone ! $ gone ! $ gone ! $ gone ! $ gone ! $ gone ! $ gone ! $ gone ! $ gone ! $
+            gone ! $ gone ! $ gone ! $ gone ! $ gone ! $ free0 ! $
+            -- [nothing; κ; what the reader owns]
+            keep ! (2 ∷ 1 ∷ []) $ use1 (givenOf 𝓤 H 𝓜 𝓖) (own-of 𝓤 κs bytes s) (reader-opened 𝓤 H (𝓖 .A) (givenOf 𝓤 H 𝓜 𝓖) κs (reader-at s i₂)) $ move ! (1 ∷ 0 ∷ []) $
+            by ! (exit r (tt, (tt, tt)) is tt (factI 𝓤 _ _ (e ∙ ap threeOf (triple-carried l i₀))))))))))))))),
+      )))
 
-enum-known-second : tie.Need-enum-known-second
-enum-known-second c = search needs
-
-refusal-at-requires-2 : tie.Need-refusal-at-requires-2
-refusal-at-requires-2 c κs = omega (arith, number-place _ _ _ (number-stops _ _ _ _ (c .before .before .before .number-at2 .ensures) (c .before .second .given .1)), number-next _ _ _ _ (number-gives _ _ _ _ (c .before .before .before .before .before .before .before .number-at .ensures) (c .before .before .before .before .before .first2 .given .1)), c .before .before .before .before .before .before .before .before .before .pre)
-
-enum-known-second-2 : tie.Need-enum-known-second-2
-enum-known-second-2 c = search needs
-
-number-at-requires-3 : tie.Need-number-at-requires-3
-number-at-requires-3 c κs = search needs
-
-enum-known-third : tie.Need-enum-known-third
-enum-known-third c = search needs
-
-refusal-at-requires-3 : tie.Need-refusal-at-requires-3
-refusal-at-requires-3 c κs = omega (arith, number-place _ _ _ (number-stops _ _ _ _ (c .before .before .before .number-at3 .ensures) (c .before .third .given .1)), number-next _ _ _ _ (number-gives _ _ _ _ (c .before .before .before .before .before .before .before .number-at2 .ensures) (c .before .before .before .before .before .second2 .given .1)), number-next _ _ _ _ (number-gives _ _ _ _ (c .before .before .before .before .before .before .before .before .before .before .before .number-at .ensures) (c .before .before .before .before .before .before .before .before .before .first2 .given .1)), c .before .before .before .before .before .before .before .before .before .before .before .before .before .pre)
-
-enum-known-third-2 : tie.Need-enum-known-third-2
-enum-known-third-2 c = search needs
-
-returns : tie.Need-returns
-returns c = three-refused (triple-first _ _ (number-stops _ _ _ _ (c .before .before .before .before .number-at .ensures) (c .before .before .first .given .1))) (c .refusal-at .ensures)
-
-returns-2 : tie.Need-returns-2
-returns-2 c = three-refused (triple-second _ _ (number-gives _ _ _ _ (c .before .before .before .before .before .before .before .before .number-at .ensures) (c .before .before .before .before .before .before .first2 .given .1)) (number-stops _ _ _ _ (c .before .before .before .before .number-at2 .ensures) (c .before .before .second .given .1))) (c .refusal-at2 .ensures)
-
-returns-3 : tie.Need-returns-3
-returns-3 c = three-refused (triple-third _ _ (number-gives _ _ _ _ (c .before .before .before .before .before .before .before .before .before .before .before .before .number-at .ensures) (c .before .before .before .before .before .before .before .before .before .before .first2 .given .1)) (number-gives _ _ _ _ (c .before .before .before .before .before .before .before .before .number-at2 .ensures) (c .before .before .before .before .before .before .second2 .given .1)) (number-stops _ _ _ _ (c .before .before .before .before .number-at3 .ensures) (c .before .before .third .given .1))) (c .refusal-at3 .ensures)
-
-returns-4 : tie.Need-returns-4
-returns-4 c = three-read (triple-all _ _ (number-gives _ _ _ _ (c .before .before .before .before .before .before .before .before .before .before .before .number-at .ensures) (c .before .before .before .before .before .before .before .before .before .first2 .given .1)) (number-gives _ _ _ _ (c .before .before .before .before .before .before .before .number-at2 .ensures) (c .before .before .before .before .before .second2 .given .1)) (number-gives _ _ _ _ (c .before .before .before .number-at3 .ensures) (c .before .third2 .given .1)))
-
-pub three-at-spec : {M : Type 1} → statement M
-three-at-spec =
-    tie.close
-    (tie.spec
-    number-at-requires
-    enum-known-first
-    refusal-at-requires
-    enum-known-first-2
-    number-at-requires-2
-    enum-known-second
-    refusal-at-requires-2
-    enum-known-second-2
-    number-at-requires-3
-    enum-known-third
-    refusal-at-requires-3
-    enum-known-third-2
-    returns
-    returns-2
-    returns-3
-    returns-4)
+pub three-at-spec : {M : Type 1} → stated.statement M
+unfolding code.routine
+three-at-spec 𝓤 H 𝓜 𝓖 𝓡 = solved 𝓤 H 𝓜 𝓖 𝓡 code.env 1 ks three (f.clauses 𝓤 H (𝓖 .A) (𝓜 .mem) (𝓡 .run)) key.name code.function (code.unfolded 𝓤 H 𝓜 𝓡) (walk 𝓤 H 𝓜 𝓖 𝓡)
