@@ -1,6 +1,6 @@
 -- Functions over types that may hold a `&`, as a struct of a lent slice and a place in it: what a value of such a type owns can be had twice, and is not made
 -- anew of its facts, so it stands in the context as it is. It says nothing of the crate.
---     Held n           such a type, over n lifetimes.        fact-only D, slice j R, struct j T
+--     Held n           such a type, over n lifetimes.        of-data D, slice j R, struct j T
 --     over n ks k      the `Ended` of a function of n lifetimes, the parameters ks and the result k: a generated `ended` is one by computation
 --     Walked           what the author of a walk proves: at exit nothing is left of the parameters.        proved       takes it to the function's statement
 --     Known, known     a function that meets its contract
@@ -23,7 +23,7 @@ use contract.Monad.{fact}
 use contract.Lifetimes.{Lfts, Shares, Within, lftAt, toks}
 use ghost.Atoms.{Atoms, sem}
 use sound.WpLaws.{fmOf, WpFn-mono}
-use types.Kit.{Given, Item, ‵, raw, _⊛_, some, later, ⋆, pop, push, ⊢++, ++⊢, prop, Post, runs, lands, Seq, Go, _$_, _∵_, !, qed, move, drop, use0, use1, use2, split, join, pick, rewrite, regoal, await, suffices, frame, done}
+use types.Kit.{Given, Item, ‵, raw, _⊛_, some, later, ⋆, push, ⊢++, ++⊢, prop, Post, runs, lands, Seq, Go, _$_, _∵_, !, qed, move, drop, use0, use1, split, join, pick, rewrite, regoal, await, suffices, frame, done}
 use types.Run.{Opds}
 use denote.RattleType.{RattleType, Denots, Valss, flat, owns, mirs}
 use denote.Laws.{Is, Tells, Lawful, Lawfuls, Typed, all-typed, Spells, Tellss, Ises, Are, valss, shows}
@@ -58,8 +58,8 @@ silent : {n : ℕ} (k : Held n) (κs : Lfts n) (x : k .row κs .Denot) (f : Last
 silent k κs x = subst (λ (e : Exit (k .row κs .Denot)). (f : Last e x) → left e x f ≡ ftrue) (sym (k .still κs)) (λ f. refl)
 
 module _ {n : ℕ} where
-  abbrev pub fact-only : Data → Held n
-  fact-only D = record { row = λ κs. D .row; val = λ κs. D .val; tells = λ κs. D .tells; lawful = λ 𝓤 H A W κs. D .lawful 𝓤 H A W; still = λ κs. D .still }
+  abbrev pub of-data : Data → Held n
+  of-data D = record { row = λ κs. D .row; val = λ κs. D .val; tells = λ κs. D .tells; lawful = λ 𝓤 H A W κs. D .lawful 𝓤 H A W; still = λ κs. D .still }
 
   abbrev pub slice : (j : ℕ) → Within n j → RattleType → Held n
   slice j ok R = record { row = λ κs. ShrSlice (named j) (lftAt n j ok κs) R; val = λ κs s. sliceVal (s .ptr) (length (s .now)); tells = λ κs. shr-slice-tells (named j) (lftAt n j ok κs) R; lawful = λ 𝓤 H A W κs. shr-slice-lawful 𝓤 H A W (named j) (lftAt n j ok κs) R; still = λ κs. refl }

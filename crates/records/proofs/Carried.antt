@@ -1,7 +1,7 @@
 -- Numbers that a reader reads one behind the other: each begins where the one before it ends, and where one is refused the reader stays, so the first refusal
 -- stands whatever is read after it. What three and five of them come to is what `triple` and `heading` say. Relies on Groups and Steps.
-use Prim.Native.Nat.{ℕ, _+_, _<_, _≤_}
-use mathlib.Core.Path.{_≡_, refl, sym, ap, _∙_}
+use Prim.Native.Nat.{ℕ, _+_, _≤_}
+use mathlib.Core.Path.{_≡_, refl, sym, _∙_}
 use mathlib.Core.List.{List}
 use native.Mathlib.Omega.{arith}
 use lib.Dec.{lit≤}
@@ -9,7 +9,7 @@ use Rattle.net.specs.Refusals.{refusal}
 use Rattle.net.specs.declared.Refusal.{Refusal}
 use Rattle.records.specs.Numbers.{Got, got, refused, number}
 use Rattle.records.specs.Reading.{Reading, andThen, Triple, Heading, triple, heading}
-use Rattle.records.specs.Answers.{numberedOf, saysNumbered, behindOf, tripleOf, headingOf}
+use Rattle.records.specs.Answers.{numberedOf, saysNumbered, behindOf, Placeable, tripleOf, headingOf}
 use Rattle.records.specs.declared.numbers.Numbered.{Numbered}
 use Rattle.records.specs.declared.numbers.Numbered.the-variants.{Number, Refused as NumberRefused}
 use Rattle.records.proofs.Groups.{number-next, number-place}
@@ -83,12 +83,12 @@ module _ (bytes : List ℕ) where
       go (refused r) e = omega (arith, number-place bytes at r e)
 
   -- three numbers in a row, and the five of a head, end where a refusal can name the place
-  pub three-near : (at : ℕ) → at ≤ 1000000 → (on at < 4294967296) × ((on (on at) < 4294967296) × (on (on (on at)) < 4294967296))
+  pub three-near : (at : ℕ) → at ≤ 1000000 → Placeable (read at) × (Placeable (read (on at)) × Placeable (read (on (on at))))
   three-near at few =
       let a = on-near at in let b = on-near (on at) in let c = on-near (on (on at)) in
       (omega arith, (omega arith, omega arith))
 
-  pub head-near : (on 0 < 4294967296) × ((on (on 0) < 4294967296) × ((on (on (on 0)) < 4294967296) × ((on (on (on (on 0))) < 4294967296) × (on (on (on (on (on 0)))) < 4294967296))))
+  pub head-near : Placeable (read 0) × (Placeable (read (on 0)) × (Placeable (read (on (on 0))) × (Placeable (read (on (on (on 0)))) × Placeable (read (on (on (on (on 0))))))))
   head-near =
       let t = three-near 0 (lit≤ tt) in let a = on-near 0 in let b = on-near (on 0) in let c = on-near (on (on 0)) in let d = on-near (on (on (on 0))) in let e = on-near (on (on (on (on 0)))) in
       (t .0, (t .1 .0, (t .1 .1, (omega arith, omega arith))))

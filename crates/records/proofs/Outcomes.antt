@@ -9,6 +9,7 @@ use native.Mathlib.Omega.{arith}
 use lib.ListN.{length}
 use lib.Dec.{ltb}
 use lib.Seq.{take-append-seam}
+use denote.Ref.{RefT, now}
 use borrow.Author.Tests.{ltb-false, le-ltb}
 use Rattle.net.specs.Net.{Net, every}
 use Rattle.net.specs.Refusals.{refusal, first, netLines}
@@ -19,6 +20,7 @@ use Rattle.records.specs.Reading.{netRead}
 use Rattle.records.specs.Writing.{netWritten, shortLines, writeRefusal, onto, partOf, afterWriting, roomAfter}
 use Rattle.records.specs.Answers.{saidOf, numberedOf, saysNumbered, readArrayOf, saysRead, writeAnswerBy, writeAnswerOf, saidSize, saysWritten, Writes}
 use Rattle.records.specs.declared.numbers.Numbered.{Numbered}
+use Rattle.records.specs.declared.reader.Reader.{Reader}
 use Rattle.records.specs.declared.reading.ReadArray.{ReadArray}
 use Rattle.records.specs.declared.writing.WriteAnswer.{WriteAnswer}
 use Rattle.records.specs.declared.writing.WriteAnswer.the-variants.{Written}
@@ -28,6 +30,16 @@ use Rattle.records.proofs.Sizes.{both-none, first-none}
 -- TWO OUTCOMES ARE EQUAL, one law for each public function
 pub number-at-unique : (bytes : List ℕ) (at : ℕ) (r r′ : Numbered) → r ≡ numberedOf (number bytes at) → r′ ≡ numberedOf (number bytes at) → r ≡ r′
 number-at-unique bytes at r r′ e f = e ∙ sym f
+
+-- of the reader's functions, over the same lent bytes
+pub new-unique : (bytes : RefT (List ℕ)) (r r′ : Reader) → r ≡ record { bytes = bytes; at = 0 } → r′ ≡ record { bytes = bytes; at = 0 } → r ≡ r′
+new-unique bytes r r′ e f = e ∙ sym f
+
+pub number-unique : (r : Reader) (n n′ : Numbered) → n ≡ numberedOf (number (now (r .bytes)) (r .at)) → n′ ≡ numberedOf (number (now (r .bytes)) (r .at)) → n ≡ n′
+number-unique r n n′ e f = e ∙ sym f
+
+pub moved-unique : (r : Reader) (at : ℕ) (q q′ : Reader) → q ≡ record { bytes = r .bytes; at = at } → q′ ≡ record { bytes = r .bytes; at = at } → q ≡ q′
+moved-unique r at q q′ e f = e ∙ sym f
 
 -- of `put_number` the part that is handed back: what stands behind it is lent on with it, and no contract can speak of it
 pub put-number-unique : (n : ℕ) (room part part′ : List ℕ) → part ≡ partOf n room → part′ ≡ partOf n room → part ≡ part′

@@ -28,7 +28,7 @@ use denote.Steps.{owned}
 use denote.Struct.Laws as LL
 use Rattle.lent.proofs.Types as Types
 use Rattle.lent.proofs.Thin.{Over}
-use Rattle.lent.proofs.Held.{Known, known, asks, carries, fact-only, own-of}
+use Rattle.lent.proofs.Held.{Known, known, asks, carries, of-data, own-of}
 use Rattle.records.specs.Numbers.{number}
 use Rattle.records.specs.Answers.{numberedOf, behindOf}
 use Rattle.records.specs.declared.numbers.Numbered.{Numbered}
@@ -73,13 +73,13 @@ module _ {M : Type 1} {𝓤 : URA M} {H : Heap 𝓤} {𝓜 : Model 𝓤 H} (𝓖
   to-new p = known 𝓤 H 𝓜 𝓖 𝓡 γ 1 (bytes ∷ []) reader (new.clauses 𝓤 H (𝓖 .A) (𝓜 .mem) (𝓡 .run)) new-def.name new-def.routine p (new-thm.met 𝓤 H 𝓜 𝓖 𝓡)
 
   abbrev pub to-number : γ number-def.name ≡ number-def.routine → Known 𝓤 H (𝓖 .A) (Over 𝓤 H 𝓜 𝓖 𝓡 γ .C) number-def.name
-  to-number p = known 𝓤 H 𝓜 𝓖 𝓡 γ 1 (reader ∷ []) (fact-only numbered) (number-fn.clauses 𝓤 H (𝓖 .A) (𝓜 .mem) (𝓡 .run)) number-def.name number-def.routine p (number-thm.met 𝓤 H 𝓜 𝓖 𝓡)
+  to-number p = known 𝓤 H 𝓜 𝓖 𝓡 γ 1 (reader ∷ []) (of-data numbered) (number-fn.clauses 𝓤 H (𝓖 .A) (𝓜 .mem) (𝓡 .run)) number-def.name number-def.routine p (number-thm.met 𝓤 H 𝓜 𝓖 𝓡)
 
   abbrev pub to-behind : γ behind-def.name ≡ behind-def.routine → Known 𝓤 H (𝓖 .A) (Over 𝓤 H 𝓜 𝓖 𝓡 γ .C) behind-def.name
-  to-behind p = known 𝓤 H 𝓜 𝓖 𝓡 γ 0 (fact-only numbered ∷ []) (fact-only Types.usize) (behind.clauses 𝓤 H (𝓖 .A) (𝓜 .mem) (𝓡 .run)) behind-def.name behind-def.routine p (behind-thm.met 𝓤 H 𝓜 𝓖 𝓡)
+  to-behind p = known 𝓤 H 𝓜 𝓖 𝓡 γ 0 (of-data numbered ∷ []) (of-data Types.usize) (behind.clauses 𝓤 H (𝓖 .A) (𝓜 .mem) (𝓡 .run)) behind-def.name behind-def.routine p (behind-thm.met 𝓤 H 𝓜 𝓖 𝓡)
 
   abbrev pub to-moved : γ moved-def.name ≡ moved-def.routine → Known 𝓤 H (𝓖 .A) (Over 𝓤 H 𝓜 𝓖 𝓡 γ .C) moved-def.name
-  to-moved p = known 𝓤 H 𝓜 𝓖 𝓡 γ 1 (reader ∷ fact-only Types.usize ∷ []) reader (moved.clauses 𝓤 H (𝓖 .A) (𝓜 .mem) (𝓡 .run)) moved-def.name moved-def.routine p (moved-thm.met 𝓤 H 𝓜 𝓖 𝓡)
+  to-moved p = known 𝓤 H 𝓜 𝓖 𝓡 γ 1 (reader ∷ of-data Types.usize ∷ []) reader (moved.clauses 𝓤 H (𝓖 .A) (𝓜 .mem) (𝓡 .run)) moved-def.name moved-def.routine p (moved-thm.met 𝓤 H 𝓜 𝓖 𝓡)
 
   module _ {K : Type 0} {E : Env 𝓤 H} {q : Post 𝓤 H} {xs : List Operand} {d : Place} {rest : Body} {Γ : List (Item 𝓤)} where
     module _ (κs : Lfts 1) (qs : Shares 1) where

@@ -5,33 +5,20 @@ use mathlib.Core.List.{List}
 use mathlib.Core.Option.{Option, none, some}
 use native.Mathlib.Omega.{arith}
 use lib.ListN.{length}
-use Rattle.net.specs.Refusals.{refusal, first, segmentLines}
+use Rattle.net.specs.Refusals.{first, segmentLines}
 use Rattle.net.specs.declared.Segment.{Segment}
 use Rattle.net.specs.declared.Head.{Head}
 use Rattle.net.specs.declared.Refusal.{Refusal}
 use Rattle.records.specs.Numbers.{Got, got, refused, number}
 use Rattle.records.specs.Reading.{Reading, andThen, unless, hold, Triple, Heading, triple, heading, segment}
-use Rattle.records.specs.Answers.{numberedOf, threeOf, headReadOf, segmentReadOf}
-use Rattle.records.specs.declared.numbers.Numbered.{Numbered}
-use Rattle.records.specs.declared.numbers.Numbered.the-variants.{Number, Refused as NumberRefused}
+use Rattle.records.specs.Answers.{threeOf, headReadOf, segmentReadOf}
 use Rattle.records.specs.declared.reading.Three.{Three}
 use Rattle.records.specs.declared.reading.Three.the-variants.{Numbers, Refused as ThreeRefused}
 use Rattle.records.specs.declared.reading.HeadRead.the-variants.{Read as ReadHead, Refused as HeadRefused}
 use Rattle.records.specs.declared.reading.SegmentRead.the-variants.{Read as ReadSegment, Refused as SegmentRefused}
 use Rattle.records.proofs.Groups.{number-next}
 
--- what the answer of a number's reader says
-pub number-stops : (g : Got ℕ) (v : Numbered) (num pl : ℕ) → v ≡ numberedOf g → v ≡ NumberRefused num pl → g ≡ refused (refusal num pl)
-number-stops (got n i) v num pl e f = let z : _≡_ {A = ℕ} 0 1 = cc in absurd (omega arith)
-number-stops (refused r) v num pl e f =
-    let z : r .number ≡ num = cc in
-    let y : r .place ≡ pl = cc in
-    rw (← z, ← y)
-
-pub number-gives : (g : Got ℕ) (v : Numbered) (n i : ℕ) → v ≡ numberedOf g → v ≡ Number n i → g ≡ got n i
-number-gives (got m j) v n i e f = cc
-number-gives (refused r) v n i e f = let z : _≡_ {A = ℕ} 0 1 = cc in absurd (omega arith)
-
+-- what the answer of three numbers says
 pub three-stops : (g : Got Triple) (v : Three) (r : Refusal) → v ≡ threeOf g → v ≡ ThreeRefused r → g ≡ refused r
 three-stops (got t i) v r e f = let z : _≡_ {A = ℕ} 0 1 = cc in absurd (omega arith)
 three-stops (refused q) v r e f = cc

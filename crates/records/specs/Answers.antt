@@ -1,6 +1,6 @@
 -- What the answers of the code say in document 01's words: "either a result or a refusal with its number and its place".
 -- Relies on `Numbers`, `Reading` and `Writing`; the contracts of the code are equations with these.
-use Prim.Native.Nat.{ℕ, _-_}
+use Prim.Native.Nat.{ℕ, _-_, _<_}
 use mathlib.Core.Path.{_≡_}
 use mathlib.Core.List.{List, [], _++_}
 use mathlib.Core.Option.{Option, none, some}
@@ -52,6 +52,10 @@ saysNumbered (NumberRefused number place) = refused (refusal number place)
 abbrev pub behindOf : Numbered → ℕ
 behindOf (Number n next) = next
 behindOf (NumberRefused number place) = place
+
+-- a place that a refusal can name, as one of 32 bits
+abbrev pub Placeable : Numbered → Type 0
+Placeable v = behindOf v < 4294967296
 
 -- READING: three numbers, a head, a segment, or the refusal
 abbrev pub threeOf : Got Triple → Three

@@ -1,4 +1,5 @@
-// Reading a record: the five head numbers, 1 to 4, 8, then each segment's three numbers and its 5, 6, 7, then 12. One pass over the bytes.
+// Reading a record: the five head numbers, 1 to 4, 8, then each segment's three numbers and its 5, 6, 7, then 12. A reader carries the bytes from number to
+// number, in one pass; where a number is refused it stays, and the first refusal is the answer.
 // What is read stands in an array of its own, and a refusal leaves it zero: nothing is stored before the whole record is found good.
 use crate::checks::segment_refusal;
 use crate::numbers::Numbered;
@@ -17,7 +18,7 @@ ghost use lib.ListN.{replicate};
 ghost use Rattle.net.specs.Net.{beyond};
 ghost use Rattle.net.specs.Refusals.{refusal};
 ghost use Rattle.records.specs.Reading.{triple, heading, segment, segments, restRead, netRead};
-ghost use Rattle.records.specs.Answers.{behindOf, threeOf, tripleOf, headReadOf, headingOf, segmentReadOf, segmentsReadOf, readArrayOf};
+ghost use Rattle.records.specs.Answers.{Placeable, threeOf, tripleOf, headReadOf, headingOf, segmentReadOf, segmentsReadOf, readArrayOf};
 
 // Three numbers in a row and the place after them, or the refusal.
 enum Three {
@@ -85,7 +86,7 @@ fn no_segments() -> [Segment; 2048]
 
 // Three numbers in a row, or the first refusal among them.
 fn three_of(first: Numbered, second: Numbered, third: Numbered) -> Three
-    requires { ⌜ (behindOf first < 4294967296) × ((behindOf second < 4294967296) × (behindOf third < 4294967296)) ⌝ }
+    requires { ⌜ Placeable first × (Placeable second × Placeable third) ⌝ }
     ensures { λ r. ⌜ r ≡ threeOf (tripleOf first second third) ⌝ }
 {
     match first {
@@ -116,7 +117,7 @@ fn three_at(bytes: &[u8], at: usize) -> Three
 
 // The head of five numbers, or the first refusal among them.
 fn head_of(posts: Numbered, source: Numbered, p: Numbered, q: Numbered, count: Numbered) -> HeadRead
-    requires { ⌜ (behindOf posts < 4294967296) × ((behindOf source < 4294967296) × ((behindOf p < 4294967296) × ((behindOf q < 4294967296) × (behindOf count < 4294967296)))) ⌝ }
+    requires { ⌜ Placeable posts × (Placeable source × (Placeable p × (Placeable q × Placeable count))) ⌝ }
     ensures { λ r. ⌜ r ≡ headReadOf (headingOf posts source p q count) ⌝ }
 {
     let three = three_of(posts, source, p);

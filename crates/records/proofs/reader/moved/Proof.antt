@@ -2,7 +2,7 @@
 use Rattle.lent.proofs.Walk.{refl, List, [], _∷_, URA, Model, Heap, Tables, factI, GhostRules, Running, givenOf, _$_, !, by, move, keep, drop, agg, whole, sub, look-in, look, init, stop, fld, from, load, of-opd, and-then, no-more, assigns, returns, free0, Over, begins, at, gone}
 use types.Kit.{use1}
 use Rattle.lent.proofs.Types as T
-use Rattle.lent.proofs.Held.{Held, fact-only, Walked, own-of, proved}
+use Rattle.lent.proofs.Held.{Held, of-data, Walked, own-of, proved}
 use Rattle.records.proofs.Readers.{bytes, reader, reader-made, reader-opened}
 use Rattle.records.proofs.reader.moved.Key as key
 use Rattle.records.proofs.reader.moved as f
@@ -10,7 +10,7 @@ use Rattle.records.proofs.reader.moved.Statement as stated
 use Rattle.records.proofs.reader.moved.Code as code
 
 abbrev ks : List (Held 1)
-ks = reader ∷ fact-only T.usize ∷ []
+ks = reader ∷ of-data T.usize ∷ []
 
 module _ {M : Type 1} (𝓤 : URA M) (H : Heap 𝓤) (𝓜 : Model 𝓤 H) (𝓖 : GhostRules 𝓤 H) (𝓡 : Running 𝓤 H 𝓜) where
   abbrev 𝓣 : Tables 𝓤 H

@@ -1,8 +1,8 @@
 -- `number` meets its contract: a walk of its MIR, by hand. The reader is taken apart, and `number_at` is called on the bytes and the place. Assumes nothing.
-use Rattle.lent.proofs.Walk.{_≡_, refl, List, [], _∷_, URA, id⊢, Model, Heap, Tables, factI, GhostRules, Running, givenOf, _$_, !, by, move, keep, drop, whole, sub, look-in, look, init, stop, fld, from, load, of-opd, assigns, land, returns, free0, u8, now, Is, owned, Kind, dat, shr, Over, Callee, callee, begins, args, calls, gone}
+use Rattle.lent.proofs.Walk.{_≡_, refl, List, [], _∷_, URA, id⊢, Model, Heap, Tables, factI, GhostRules, Running, givenOf, _$_, !, by, move, keep, drop, whole, sub, look-in, look, init, stop, fld, from, load, of-opd, assigns, land, returns, free0, u8, now, Is, owned, dat, shr, Over, Callee, callee, begins, args, calls, gone}
 use types.Kit.{use1}
 use Rattle.lent.proofs.Types as T
-use Rattle.lent.proofs.Held.{Held, fact-only, Walked, own-of, proved}
+use Rattle.lent.proofs.Held.{Held, of-data, Walked, own-of, proved}
 use Rattle.records.specs.Numbers.{number}
 use Rattle.records.specs.Answers.{numberedOf}
 use Rattle.records.proofs.Readers.{numbered, bytes, reader, reader-opened}
@@ -24,7 +24,7 @@ module _ {M : Type 1} (𝓤 : URA M) (H : Heap 𝓤) (𝓜 : Model 𝓤 H) (𝓖
   abbrev to-core : Callee 𝓤 H (𝓖 .A) (𝓣 .C) core-def.name
   to-core = callee 𝓤 H 𝓜 𝓖 𝓡 code.env 1 (shr 0 tt u8 ∷ dat T.usize ∷ []) numbered (core.clauses 𝓤 H (𝓖 .A) (𝓜 .mem) (𝓡 .run)) core-def.name core-def.routine code.calls-records·numbers·number-at (core-thm.met 𝓤 H 𝓜 𝓖 𝓡)
 
-  walk : Walked 𝓤 H (𝓖 .A) (givenOf 𝓤 H 𝓜 𝓖) 1 ks (fact-only numbered) (f.clauses 𝓤 H (𝓖 .A) (𝓜 .mem) (𝓡 .run)) 𝓣 code.function
+  walk : Walked 𝓤 H (𝓖 .A) (givenOf 𝓤 H 𝓜 𝓖) 1 ks (of-data numbered) (f.clauses 𝓤 H (𝓖 .A) (𝓜 .mem) (𝓡 .run)) 𝓣 code.function
   walk κs qs a g are ok-args P exit =
       let W = givenOf 𝓤 H 𝓜 𝓖 in let r = a .0 in let wt = ok-args .0 .1 in
       drop ! $ begins ! 𝓣 code.function _ P (λ l₀ l₁ l₂ l₃. (
@@ -42,4 +42,4 @@ module _ {M : Type 1} (𝓤 : URA M) (H : Heap 𝓤) (𝓜 : Model 𝓤 H) (𝓖
 
 pub number-spec : {M : Type 1} → stated.statement M
 unfolding code.routine
-number-spec 𝓤 H 𝓜 𝓖 𝓡 = proved 𝓤 H 𝓜 𝓖 𝓡 code.env 1 ks (fact-only numbered) (f.clauses 𝓤 H (𝓖 .A) (𝓜 .mem) (𝓡 .run)) key.name code.function (code.unfolded 𝓤 H 𝓜 𝓡) (walk 𝓤 H 𝓜 𝓖 𝓡)
+number-spec 𝓤 H 𝓜 𝓖 𝓡 = proved 𝓤 H 𝓜 𝓖 𝓡 code.env 1 ks (of-data numbered) (f.clauses 𝓤 H (𝓖 .A) (𝓜 .mem) (𝓡 .run)) key.name code.function (code.unfolded 𝓤 H 𝓜 𝓡) (walk 𝓤 H 𝓜 𝓖 𝓡)
