@@ -1,0 +1,86 @@
+-- What is answered of a record, and what the lent lists hold afterwards: a refusal of reading is the answer, and then nothing is changed;
+-- otherwise it is what building, writing or margin answers of the net that was read. Relies on records' `netRead` and `Writing`, net's `Building`, looms' `Answers`.
+use mathlib.Core.Path.{_≡_}
+use mathlib.Core.List.{List}
+use Prim.Native.Nat.{ℕ}
+use lib.ListN.{length}
+use Rattle.net.specs.Net.{Net, every, mostSegments}
+use Rattle.net.specs.Refusals.{Lent}
+use Rattle.net.specs.Building.{BuildAnswer, built, refused, buildOf, afterBuild, marginOf}
+use Rattle.net.specs.Building as B
+use Rattle.net.specs.declared.Head.{Head}
+use Rattle.net.specs.declared.Tree.{Tree}
+use Rattle.net.specs.declared.Tree.the-variants.{Lightest, Shortest, Between}
+use Rattle.net.specs.declared.Checked.{Checked}
+use Rattle.net.specs.declared.Checked.the-variants.{Sound, Refused as Unsound}
+use Rattle.looms.specs.Answers.{measuredOf, marginAnswerOf, lentOf}
+use Rattle.looms.specs.declared.MarginAnswer.{MarginAnswer}
+use Rattle.records.specs.Numbers.{Got, got, refused as unread}
+use Rattle.records.specs.Reading.{netRead}
+use Rattle.records.specs.Writing.{roomAfter}
+use Rattle.records.specs.Answers.{writeAnswerOf}
+use Rattle.records.specs.declared.writing.WriteAnswer.{WriteAnswer}
+use Rattle.records.specs.declared.writing.WriteAnswer.the-variants.{Refused as Unwritten}
+use Rattle.plans.specs.declared.PlanAnswer.{PlanAnswer}
+use Rattle.plans.specs.declared.PlanAnswer.the-variants.{Planned, Refused}
+
+-- a record is read with places for as many segments as a net may have, so that 8 is never given for them (proofs/Room)
+unfoldable pub recordRead : List ℕ → Got Net
+recordRead bytes = netRead bytes mostSegments 0
+
+-- PLAN: what building answers, with a head and a number of segments
+abbrev pub plannedWith : Head → ℕ → BuildAnswer → PlanAnswer
+plannedWith h m (built l s b k) = Planned h m (measuredOf l) (measuredOf s) (measuredOf b) k
+plannedWith h m (refused r) = Refused r
+
+-- of the net that was read, with its head and the number of its segments; or the refusal of reading
+abbrev pub planOf : Got Net → Lent → PlanAnswer
+planOf (got n next) lent = plannedWith (n .head) (length (n .segments)) (buildOf every n (length (n .segments)) lent)
+planOf (unread r) lent = Refused r
+
+-- a lent tree list afterwards: as building leaves it; after a refusal of reading "what it held before"
+abbrev pub treeList : Got Net → Lent → Tree → List ℕ → List ℕ
+treeList (got n next) lent t l = afterBuild every n (length (n .segments)) lent t l
+treeList (unread r) lent t l = l
+
+-- what planning a record leaves, where the three lists held l, s and w: its answer r, and what the lists hold then
+pub record Plans (bytes l s w : List ℕ) (r : PlanAnswer) (l′ s′ w′ : List ℕ) : Type 0 where
+  pub answer : r ≡ planOf (recordRead bytes) (lentOf l s w)
+  pub lightest : l′ ≡ treeList (recordRead bytes) (lentOf l s w) Lightest l
+  pub shortest : s′ ≡ treeList (recordRead bytes) (lentOf l s w) Shortest s
+  pub between : w′ ≡ treeList (recordRead bytes) (lentOf l s w) Between w
+
+-- the same of a net that is at hand: h is its head, and m the number of segments that is claimed
+pub record PlansNet (h : Head) (m : ℕ) (n : Net) (l s w : List ℕ) (r : PlanAnswer) (l′ s′ w′ : List ℕ) : Type 0 where
+  pub answer : r ≡ plannedWith h m (buildOf every n m (lentOf l s w))
+  pub lightest : l′ ≡ afterBuild every n m (lentOf l s w) Lightest l
+  pub shortest : s′ ≡ afterBuild every n m (lentOf l s w) Shortest s
+  pub between : w′ ≡ afterBuild every n m (lentOf l s w) Between w
+
+-- REWRITE: what writing answers of the net; room is how many bytes are lent
+abbrev pub rewriteOf : Got Net → ℕ → WriteAnswer
+rewriteOf (got n next) room = writeAnswerOf n (length (n .segments)) room
+rewriteOf (unread r) room = Unwritten r
+
+-- the room afterwards: as writing leaves it; after a refusal of reading "what it held before"
+abbrev pub roomOf : Got Net → List ℕ → List ℕ
+roomOf (got n next) room = roomAfter n (length (n .segments)) room
+roomOf (unread r) room = room
+
+pub record Rewrites (bytes room : List ℕ) (r : WriteAnswer) (room′ : List ℕ) : Type 0 where
+  pub answers : r ≡ rewriteOf (recordRead bytes) (length room)
+  pub leaves : room′ ≡ roomOf (recordRead bytes) room
+
+-- MARGIN: what margin answers of the net
+abbrev pub marginSaid : Got Net → Tree → ℕ → B.MarginAnswer
+marginSaid (got n next) t post = marginOf every n (length (n .segments)) t post
+marginSaid (unread r) t post = B.MarginAnswer.refused r
+
+-- the same in the code's enum
+abbrev pub marginRead : List ℕ → Tree → ℕ → MarginAnswer
+marginRead bytes t post = marginAnswerOf (marginSaid (recordRead bytes) t post)
+
+-- CHECK: nothing refuses the record, or reading's refusal
+abbrev pub checkRead : Got Net → Checked
+checkRead (got n next) = Sound
+checkRead (unread r) = Unsound r
