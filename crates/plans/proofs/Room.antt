@@ -16,15 +16,12 @@ use Rattle.net.specs.declared.Refusal.{Refusal}
 use Rattle.records.specs.Numbers.{Bytes, Got, got, refused}
 use Rattle.records.specs.Reading.{Heading, heading, segments, restRead, netRead}
 use Rattle.records.specs.Writing.{onto}
-use Rattle.records.specs.Answers.{readArrayOf}
-use Rattle.records.specs.declared.reading.ReadAnswer.the-variants.{Read}
 use Rattle.records.specs.declared.writing.WriteAnswer.{WriteAnswer}
 use Rattle.records.specs.declared.writing.WriteAnswer.the-variants.{Written}
 use Rattle.records.proofs.Lines.{head-sound}
 use Rattle.records.proofs.Passes.{rest-head, rest-segments, rest-more, rest-all, net-stops, net-rest}
-use Rattle.records.proofs.Outcomes.{read-then-written}
-use Rattle.plans.specs.Asked.{recordRead, Rewrites}
-use Rattle.plans.proofs.Given.{read-given}
+use Rattle.records.proofs.Outcomes.{read-writes}
+use Rattle.plans.specs.Asked.{recordRead, rewriteOf, roomOf, Rewrites}
 
 module _ (bytes : List ℕ) (room : ℕ) (long : mostSegments ≤ room) where
   rest-enough : (h : Heading) (at : ℕ) → restRead bytes room h at ≡ restRead bytes mostSegments h at
@@ -56,11 +53,6 @@ module _ (bytes : List ℕ) (room : ℕ) (long : mostSegments ≤ room) where
 pub rewrite-same : (bytes room : List ℕ) {n : Net} {next : ℕ} {r : WriteAnswer} {x : List ℕ} → Bytes bytes → recordRead bytes ≡ got n next → length bytes ≤ length room
     → Rewrites bytes room r x → (r ≡ Written (length bytes)) × (x ≡ onto bytes room)
 unfolding recordRead
-rewrite-same bytes room {n} {next} {r} {x} all e long w =
-    let a = readArrayOf (netRead bytes mostSegments 0) in
-    let f : a .answer ≡ Read (n .head) (length (n .segments)) = ap (λ (g : Got Net). (readArrayOf g) .answer) e in
-    let g = read-given bytes a refl (n .head) (length (n .segments)) f in
-    let i = g .is in
-    let c = g .count in
-    read-then-written bytes mostSegments a (n .head) (length (n .segments)) room r x all refl f long
-    (record { answers = rw (i, c) at (w .answers); leaves = rw (i, c) at (w .leaves) })
+rewrite-same bytes room {n} {next} all e long w =
+    let q = read-writes bytes mostSegments n next room all e long in
+    (w .answers ∙ ap (λ g. rewriteOf g (length room)) e ∙ q .0, w .leaves ∙ ap (λ g. roomOf g room) e ∙ q .1)

@@ -31,8 +31,8 @@ use Rattle.records.specs.declared.reading.ReadAnswer.{ReadAnswer}
 use Rattle.records.specs.declared.reading.ReadAnswer.the-variants.{Read}
 use Rattle.records.specs.declared.writing.WriteAnswer.{WriteAnswer}
 use Rattle.records.specs.declared.writing.WriteAnswer.the-variants.{Written}
-use Rattle.records.proofs.RoundTrip.{read-of-written, written-of-read, records-equal, nets-equal}
-use Rattle.records.proofs.Outcomes.{WasWritten, was-written, sound-writes}
+use Rattle.records.proofs.RoundTrip.{read-of-written, records-equal, nets-equal}
+use Rattle.records.proofs.Outcomes.{WasWritten, was-written, read-writes}
 use Rattle.droverboot.specs.Reading.{readAnswer, listRead, Reads}
 use Rattle.drawn.proofs.Lengths.{straight-length, length-straight, corner-length, length-corner}
 use Rattle.promises.specs.Demand2.{TreesAsStated, Holds, BuiltAsStated, MarginAsStated, RecordsBothWays, DrawnAsStated, Demand2}
@@ -135,12 +135,10 @@ again : (bytes : List ℕ) (l : List Segment) {h : Head} {count : ℕ} {l′ : L
     → (a ≡ Written (length bytes)) × (x ≡ onto bytes room)
 again bytes l {h} {count} {l′} all r room {a} {x} long w =
     let b = read-net bytes l r in
-    let v = written-of-read bytes (length l) (b .n) (b .next) all (b .read-is) in
     let m : netOn h (take count l′) ≡ b .n = ap₂ (λ k ss. netOn k ss) (sym (b .head-is)) (b .list-is) in
     let k : Writes (b .n) (length (b .n .segments)) room a x = rw (b .count-is) (subst (λ n. Writes n count room a x) m w) in
-    let d = v .written-is in
-    let q = sound-writes (b .n) (length (b .n .segments)) room (v .sound) (rw d long) in
-    (k .answers ∙ q .0 ∙ rw d, k .leaves ∙ q .1 ∙ rw d)
+    let q = read-writes bytes (length l) (b .n) (b .next) room all (b .read-is) long in
+    (k .answers ∙ q .0, k .leaves ∙ q .1)
 
 alike : (b c : List ℕ) (l m : List Segment) {h : Head} {count : ℕ} {l′ m′ : List Segment} → Bytes b → Bytes c
     → Reads b l (Read h count) l′ → Reads c m (Read h count) m′ → take count l′ ≡ take count m′ → b ≡ c

@@ -1,5 +1,5 @@
 -- What the contracts of the public functions come to: two outcomes that a contract allows are equal; what the answers say in document 01's words; what was
--- written where the answer is Written, and that a sound net is written. Relies on Sizes.
+-- written where the answer is Written, and that a sound net is written, one that was read as it was read. Relies on Sizes and RoundTrip.
 use Prim.Native.Nat.{ℕ, _≤_}
 use mathlib.Core.Path.{_≡_, refl, sym, _∙_}
 use mathlib.Core.List.{List, _++_}
@@ -15,7 +15,7 @@ use Rattle.net.specs.Net.{Net, every}
 use Rattle.net.specs.Refusals.{refusal, first, netLines}
 use Rattle.net.specs.Rules.{NetSound}
 use Rattle.net.specs.declared.Refusal.{Refusal}
-use Rattle.records.specs.Numbers.{Got, got, refused, number}
+use Rattle.records.specs.Numbers.{Bytes, Got, got, refused, number}
 use Rattle.records.specs.Reading.{netRead}
 use Rattle.records.specs.Writing.{netWritten, shortLines, writeRefusal, onto, partOf, afterWriting, roomAfter}
 use Rattle.records.specs.Answers.{saidOf, numberedOf, saysNumbered, readArrayOf, saysRead, writeAnswerBy, writeAnswerOf, saidSize, saysWritten, Writes}
@@ -26,6 +26,7 @@ use Rattle.records.specs.declared.writing.WriteAnswer.{WriteAnswer}
 use Rattle.records.specs.declared.writing.WriteAnswer.the-variants.{Written}
 use Rattle.net.proofs.Faults.{net-sound}
 use Rattle.records.proofs.Sizes.{both-none, first-none}
+use Rattle.records.proofs.RoundTrip.{written-of-read}
 
 -- TWO OUTCOMES ARE EQUAL, one law for each public function
 pub number-at-unique : (bytes : List ℕ) (at : ℕ) (r r′ : Numbered) → r ≡ numberedOf (number bytes at) → r′ ≡ numberedOf (number bytes at) → r ≡ r′
@@ -93,7 +94,7 @@ unfolding shortLines first
 short-none room size h = rw (le-ltb room size h)
 
 -- a sound net is written where the room is long enough
-pub sound-writes : (n : Net) (m : ℕ) (room : List ℕ) → NetSound every m n → length (netWritten n) ≤ length room
+sound-writes : (n : Net) (m : ℕ) (room : List ℕ) → NetSound every m n → length (netWritten n) ≤ length room
     → (writeAnswerOf n m (length room) ≡ Written (length (netWritten n))) × (roomAfter n m room ≡ onto (netWritten n) room)
 unfolding writeAnswerOf roomAfter
 sound-writes n m room s l =
@@ -113,3 +114,12 @@ was-written n m room r x size w f = go (writeRefusal n m (length room)) refl (w 
         let p = none-both e in
         record { sound = (net-sound every m n) .0 (p .0); size-is = cc; room-long = not-short _ _ (p .1); room-is = b }
     go (some q) e a b = let z : _≡_ {A = ℕ} 0 1 = cc in absurd (omega arith)
+
+-- a net that was read is written again as the bytes that were read, where the room is long enough
+pub read-writes : (bytes : List ℕ) (lent : ℕ) (n : Net) (next : ℕ) (room : List ℕ) → Bytes bytes → netRead bytes lent 0 ≡ got n next → length bytes ≤ length room
+    → (writeAnswerOf n (length (n .segments)) (length room) ≡ Written (length bytes)) × (roomAfter n (length (n .segments)) room ≡ onto bytes room)
+read-writes bytes lent n next room all e long =
+    let v = written-of-read bytes lent n next all e in
+    let d = v .written-is in
+    let q = sound-writes n (length (n .segments)) room (v .sound) (rw d long) in
+    (q .0 ∙ rw d, q .1 ∙ rw d)
