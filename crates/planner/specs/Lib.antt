@@ -1,1 +1,3 @@
--- The program cites the definitions of the crates below it.
+-- What the program prints for the bytes that it reads.
+pub mod Printed
+pub mod Worked

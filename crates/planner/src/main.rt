@@ -1,33 +1,26 @@
 // The program: reads one record from standard input and prints the trees, or the one line of a refusal.
-// "The program reads at most 14,351, .. so its answer is the reader's answer on the whole input." Thin over `records`, `looms` and `lines`.
+// "The program reads at most 14,351, .. so its answer is the reader's answer on the whole input." Thin over `plans` and `lines`.
 use libc::STDIN_FILENO;
 use libc::STDOUT_FILENO;
-use looms::Answer;
-use net::Head;
-use net::Segment;
-use records::reading::ReadAnswer;
+use plans::PlanAnswer;
 ghost use Prim.Native.Nat.{_≤_};
 ghost use lib.ListN.{length as size};
-ghost use Rattle.lines.specs.Putting.{mostText};
+ghost use Rattle.lines.specs.Putting.{Put, mostText};
+ghost use Rattle.planner.specs.Printed.{printed};
 
-// Puts what building answers for a net into the room for the text, and answers how many bytes it took.
-fn show(head: Head, count: u32, segments: [Segment; 2048], out: &mut [u8]) -> usize
+// Puts what is printed for the bytes of a record at the front of the room for it, and answers how many bytes that is.
+fn text(bytes: &[u8], out: &mut [u8]) -> usize
     requires { ⌜ mostText ≤ size (now out) ⌝ }
-    ensures { λ r. ⌜ r ≤ size (now (out .exit)) ⌝ }
+    ensures { λ r. ⌜ Put (printed (now (bytes .entry))) 0 (now (out .entry)) (now (out .exit)) r ⌝ }
 {
     let mut lightest = [0u16; 256];
     let mut shortest = [0u16; 256];
     let mut between = [0u16; 256];
-    let answer = looms::build(
-        head,
-        segments,
-        count as usize,
-        &mut lightest,
-        &mut shortest,
-        &mut between,
-    );
+    let answer = plans::plan(bytes, &mut lightest, &mut shortest, &mut between);
     match answer {
-        Answer::Built {
+        PlanAnswer::Planned {
+            head,
+            count,
             lightest: l,
             shortest: s,
             between: b,
@@ -47,23 +40,7 @@ fn show(head: Head, count: u32, segments: [Segment; 2048], out: &mut [u8]) -> us
             &between,
             out,
         ),
-        Answer::Refused(r) => lines::put_refused(r.number, r.place, out),
-    }
-}
-
-// Puts the text for a record into the room for it.
-fn text(bytes: &[u8], out: &mut [u8]) -> usize
-    requires { ⌜ mostText ≤ size (now out) ⌝ }
-    ensures { λ r. ⌜ r ≤ size (now (out .exit)) ⌝ }
-{
-    let read = records::reading::read_array(bytes, 2048);
-    let answer = read.answer;
-    match answer {
-        ReadAnswer::Read { head, count } => {
-            let segments = read.segments;
-            show(head, count, segments, out)
-        }
-        ReadAnswer::Refused(r) => lines::put_refused(r.number, r.place, out),
+        PlanAnswer::Refused(r) => lines::put_refused(r.number, r.place, out),
     }
 }
 
