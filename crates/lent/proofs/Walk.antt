@@ -31,4 +31,4 @@ pub use denote.Steps.{owned}
 pub use Rattle.lent.proofs.Params.{Kind, dat, shr, own, unit, array}
 pub use Rattle.lent.proofs.Thin.{Walk, Over, Callee, callee, solved}
 pub use Rattle.lent.proofs.Steps.{begins, at, big, counts, relends, args, calls, gone, gone-room}
-pub use Rattle.lent.proofs.Loops.{upto, holds, fails, array-open, array-shut, data-copy, finishes, lends, returned, lends-mut, returned-mut}
+pub use Rattle.lent.proofs.Loops.{upto, holds, fails, array-open, array-shut, data-copy, finishes}

@@ -59,26 +59,3 @@ pub fn spread(list: &mut [Segment], n: usize, from: [Segment; MOST_SEGMENTS])
         i += 1;
     }
 }
-
-// How many segments the arrays have that are lent below.
-pub const LENT: usize = 8;
-
-// `gather` of an array that is lent for it: a caller that lends nothing itself.
-pub fn gather_array(list: [Segment; LENT]) -> [Segment; MOST_SEGMENTS]
-    ensures { λ r. ⌜ r ≡ padded list ⌝ }
-{
-    gather(&list)
-}
-
-// `spread` over an array that is lent for it and handed back.
-pub fn spread_array(
-    list: [Segment; LENT],
-    n: usize,
-    from: [Segment; MOST_SEGMENTS],
-) -> [Segment; LENT]
-    ensures { λ r. ⌜ r ≡ laid (fitting n (length list)) from list ⌝ }
-{
-    let mut l = list;
-    spread(&mut l, n, from);
-    l
-}
