@@ -1,0 +1,51 @@
+-- What the functions for C leave in what is lent to them. A list that is lent for some numbers takes as many of them as it has entries; its entries beyond them,
+-- and after a refusal all of them, stay as they were. Relies on `Numbers` and on plans' `Asked`.
+use mathlib.Core.Path.{_≡_}
+use mathlib.Core.List.{List, [], _∷_, _++_}
+use Prim.Native.Nat.{ℕ}
+use lib.IntN.{ℤ}
+use lib.ListN.{length, take, drop}
+use Rattle.net.specs.declared.Tree.the-variants.{Lightest, Shortest, Between}
+use Rattle.looms.specs.Answers.{lentOf}
+use Rattle.looms.specs.declared.MarginAnswer.{MarginAnswer}
+use Rattle.looms.specs.declared.MarginAnswer.the-variants.{Margin, Refused as Unmeasured}
+use Rattle.plans.specs.Asked.{recordRead, planOf, treeList, rewriteOf, roomOf, marginRead}
+use Rattle.plans.specs.declared.PlanAnswer.{PlanAnswer}
+use Rattle.plans.specs.declared.PlanAnswer.the-variants.{Planned, Refused as Unplanned}
+use Rattle.abi.specs.Numbers.{planNumber, writeNumber, marginNumber, treeNamed}
+
+-- some numbers at the front of a list, as far as it goes
+unfoldable pub front : {X : Type 0} → List X → List X → List X
+front v l = take (length l) v ++ drop (length v) l
+
+-- PLAN: "posts, segments, source, ratio", "length and radius of each tree and the count of laid paths"
+abbrev pub twelve : PlanAnswer → List ℕ
+twelve (Planned h m l s b k) =
+    h .posts ∷ m ∷ h .source ∷ h .p ∷ h .q ∷ l .length ∷ l .radius ∷ s .length ∷ s .radius ∷ b .length ∷ b .radius ∷ k ∷ []
+twelve (Unplanned r) = []
+
+-- a lent summary that held d, afterwards: the twelve numbers at its front
+abbrev pub summaryAfter : PlanAnswer → List ℕ → List ℕ
+summaryAfter a d = front (twelve a) d
+
+-- what planning leaves, where the three lists held l, s and w and the summary d: the number r, and what they hold then
+pub record PlanLeaves (bytes l s w d : List ℕ) (r : ℕ) (l′ s′ w′ d′ : List ℕ) : Type 0 where
+  pub number : r ≡ planNumber (planOf (recordRead bytes) (lentOf l s w))
+  pub lightest : l′ ≡ treeList (recordRead bytes) (lentOf l s w) Lightest l
+  pub shortest : s′ ≡ treeList (recordRead bytes) (lentOf l s w) Shortest s
+  pub between : w′ ≡ treeList (recordRead bytes) (lentOf l s w) Between w
+  pub summary : d′ ≡ summaryAfter (planOf (recordRead bytes) (lentOf l s w)) d
+
+-- REWRITE
+pub record RewriteLeaves (bytes room : List ℕ) (r : ℕ) (room′ : List ℕ) : Type 0 where
+  pub number : r ≡ writeNumber (rewriteOf (recordRead bytes) (length room))
+  pub room-after : room′ ≡ roomOf (recordRead bytes) room
+
+-- MARGIN: the margin at the front of a lent list
+abbrev pub marginsOf : MarginAnswer → List ℤ
+marginsOf (Margin z) = z ∷ []
+marginsOf (Unmeasured r) = []
+
+pub record MarginLeaves (bytes : List ℕ) (tree post : ℕ) (d : List ℤ) (r : ℕ) (d′ : List ℤ) : Type 0 where
+  pub number : r ≡ marginNumber (marginRead bytes (treeNamed tree) post)
+  pub list : d′ ≡ front (marginsOf (marginRead bytes (treeNamed tree) post)) d

@@ -1,0 +1,3 @@
+-- What the contracts of the functions for C cite. Definitions only.
+pub mod Numbers
+pub mod Left
