@@ -1,0 +1,247 @@
+//! The nets and runs that document 01 works by hand, through the library.
+
+use std::fs;
+use std::path::{Path, PathBuf};
+
+use droverboot::{check, drawn, margin, plan, raw, rewrite, rewrite_into};
+use droverboot::{Reason, Refusal, Run, Tree, MOST_LENGTH, SOURCE_ENTRY};
+
+const NET_A: [u8; 20] = [4, 0, 1, 1, 5, 0, 1, 4, 1, 2, 4, 2, 3, 4, 0, 3, 5, 0, 2, 6];
+const NET_B: [u8; 20] = [5, 0, 1, 2, 5, 0, 1, 6, 1, 2, 6, 2, 3, 1, 2, 4, 2, 0, 4, 7];
+const NET_C: [u8; 23] = [
+    5, 0, 1, 2, 6, 0, 1, 4, 1, 2, 4, 0, 2, 6, 2, 4, 5, 4, 3, 5, 2, 3, 5,
+];
+const ONE_POST: [u8; 5] = [1, 0, 1, 1, 0];
+const TWO_POSTS: [u8; 9] = [2, 0, 1, 2, 1, 0, 1, 172, 2];
+
+fn net_a(p: u8, q: u8) -> [u8; 20] {
+    let mut record = NET_A;
+    (record[2], record[3]) = (p, q);
+    record
+}
+
+fn refused<T>(reason: Reason, place: u32) -> Result<T, Refusal> {
+    Err(Refusal { reason, place })
+}
+
+/// Length, radius and entries without the source's.
+type Measured<'m> = (u32, u32, &'m [u16]);
+
+fn assert_plan(record: &[u8], trees: [Measured; 3], laid: u32) {
+    let plan = plan(record).expect("planned");
+    for (which, (length, radius, entries)) in Tree::ALL.into_iter().zip(trees) {
+        let tree = plan.tree(which);
+        assert_eq!((tree.length, tree.radius), (length, radius), "{which:?}");
+        assert_eq!(tree.entries[0], SOURCE_ENTRY);
+        assert_eq!(&tree.entries[1..], entries, "{which:?}");
+        assert_eq!(tree.segment_of(0), None);
+        assert_eq!(tree.segment_of(tree.entries.len()), None);
+    }
+    assert_eq!(plan.laid, laid);
+}
+
+#[test]
+fn net_a_at_its_ratios() {
+    let lightest: Measured = (12, 12, &[0, 1, 2]);
+    let shortest: Measured = (15, 6, &[0, 4, 3]);
+    let between: Measured = (13, 8, &[0, 1, 3]);
+    assert_plan(&NET_A, [lightest, shortest, between], 1);
+    assert_plan(&net_a(6, 5), [lightest, shortest, between], 1);
+    assert_plan(&net_a(0, 1), [lightest, shortest, shortest], 2);
+    assert_plan(&net_a(7, 5), [lightest, shortest, lightest], 0);
+}
+
+#[test]
+fn nets_b_and_c() {
+    let quick: Measured = (16, 10, &[0, 3, 2, 4]);
+    assert_plan(&NET_B, [(15, 14, &[0, 1, 2, 3]), quick, quick], 1);
+    let quick: Measured = (20, 11, &[0, 2, 5, 3]);
+    assert_plan(&NET_C, [(18, 18, &[0, 1, 4, 3]), quick, quick], 1);
+}
+
+#[test]
+fn one_post_and_two() {
+    assert_plan(&ONE_POST, [(0, 0, &[]); 3], 0);
+    assert_plan(&TWO_POSTS, [(300, 300, &[0]); 3], 0);
+}
+
+#[test]
+fn the_head_comes_back() {
+    let plan = plan(&net_a(7, 5)).expect("planned");
+    assert_eq!((plan.posts, plan.segments, plan.source), (4, 5, 0));
+    assert_eq!((plan.p, plan.q), (7, 5));
+}
+
+#[test]
+fn refused_records() {
+    let cases: [(&[u8], Reason, u32); 15] = [
+        (&[], Reason::CutRecord, 0),
+        (&NET_A[..19], Reason::CutRecord, 19),
+        (&[0, 0, 1, 1, 0], Reason::PostCount, 0),
+        (&[129, 2, 0, 1, 1, 0], Reason::PostCount, 0),
+        (&[4, 4, 1, 1, 0], Reason::Source, 0),
+        (&[4, 0, 1, 0, 0], Reason::Ratio, 0),
+        (&[4, 0, 145, 78, 1, 0], Reason::Ratio, 0),
+        (&[4, 0, 1, 1, 129, 16], Reason::SegmentCount, 0),
+        (&[4, 0, 1, 1, 1, 0, 4, 1], Reason::SegmentEnd, 0),
+        (&[4, 0, 1, 1, 2, 0, 3, 1, 2, 2, 1], Reason::SameEnds, 1),
+        (&[4, 0, 1, 1, 1, 0, 3, 0], Reason::SegmentLength, 0),
+        (&[128, 0], Reason::NumberForm, 0),
+        (&[4, 128, 128, 128, 128], Reason::NumberForm, 1),
+        (&[1, 0, 1, 1, 0, 9], Reason::ExtraBytes, 5),
+        (&[4, 0, 1, 1, 1, 0, 1, 1, 0], Reason::ExtraBytes, 8),
+    ];
+    for (record, reason, place) in cases {
+        assert_eq!(check(record), refused(reason, place), "{record:?}");
+        assert_eq!(plan(record), refused(reason, place), "{record:?}");
+        assert_eq!(rewrite(record), refused(reason, place), "{record:?}");
+        let answer = margin(record, Tree::Between, 0);
+        assert_eq!(answer, refused(reason, place), "{record:?}");
+    }
+}
+
+#[test]
+fn a_net_that_is_not_joined() {
+    let record = [2, 0, 1, 1, 0];
+    assert_eq!(check(&record), Ok(()));
+    assert_eq!(rewrite(&record).as_deref(), Ok(&record[..]));
+    assert_eq!(plan(&record), refused(Reason::NotJoined, 1));
+    let answer = margin(&record, Tree::Lightest, 9);
+    assert_eq!(answer, refused(Reason::NotJoined, 1));
+}
+
+#[test]
+fn records_are_written_as_they_were_read() {
+    for record in [&NET_A[..], &NET_B, &NET_C, &ONE_POST, &TWO_POSTS] {
+        assert_eq!(check(record), Ok(()));
+        assert_eq!(rewrite(record).as_deref(), Ok(record));
+    }
+}
+
+#[test]
+fn room_beyond_the_record_stays_as_it_was() {
+    let mut room = [99; 12];
+    assert_eq!(rewrite_into(&TWO_POSTS, &mut room), Ok(9));
+    assert_eq!(room[..9], TWO_POSTS);
+    assert_eq!(room[9..], [99; 3]);
+    let mut short = [99; 8];
+    let answer = rewrite_into(&TWO_POSTS, &mut short);
+    assert_eq!(answer, refused(Reason::ShortRoom, 0));
+    assert_eq!(short, [99; 8]);
+    assert_eq!(
+        rewrite_into(&TWO_POSTS, &mut []),
+        refused(Reason::ShortRoom, 0)
+    );
+}
+
+#[test]
+fn margins() {
+    assert_eq!(margin(&NET_A, Tree::Lightest, 3), Ok(-2));
+    assert_eq!(margin(&NET_A, Tree::Shortest, 3), Ok(5));
+    assert_eq!(margin(&NET_A, Tree::Between, 3), Ok(5));
+    for tree in Tree::ALL {
+        assert_eq!(margin(&NET_A, tree, 0), Ok(0));
+        let answer = margin(&NET_A, tree, 4);
+        assert_eq!(answer, refused(Reason::NoSuchPost, 0));
+    }
+}
+
+#[test]
+fn drawn_runs() {
+    let straight = |length| drawn(Run::Straight(length));
+    assert_eq!(straight(12.5), Ok(200));
+    assert_eq!(straight(65_535.937_5), Ok(MOST_LENGTH));
+    assert_eq!(straight(0.0625), Ok(1));
+    assert_eq!(straight(65_536.0), refused(Reason::TooLong, 0));
+    assert_eq!(straight(0.031_25), refused(Reason::NotSixteenths, 0));
+    assert_eq!(straight(0.1), refused(Reason::NotSixteenths, 0));
+    for length in [f64::NAN, f64::INFINITY, f64::NEG_INFINITY] {
+        assert_eq!(straight(length), refused(Reason::NotFinite, 0));
+    }
+    assert_eq!(straight(-1.0), refused(Reason::BelowZero, 0));
+    assert_eq!(straight(-0.0), refused(Reason::Zero, 0));
+    assert_eq!(straight(0.0), refused(Reason::Zero, 0));
+}
+
+#[test]
+fn drawn_corners() {
+    let corner = |first, second| drawn(Run::Corner(first, second));
+    assert_eq!(corner(10.0, 2.5), Ok(200));
+    assert_eq!(corner(65_535.937_5, 0.0625), refused(Reason::TooLong, 2));
+    assert_eq!(corner(1.0, f64::NAN), refused(Reason::NotFinite, 1));
+    assert_eq!(corner(0.0, f64::NAN), refused(Reason::Zero, 0));
+}
+
+#[test]
+fn a_short_list_is_refused_and_a_short_summary_is_not() {
+    let [mut first, mut second, mut third] = [[7; 4]; 3];
+    let answer = raw::plan(
+        &NET_A,
+        &mut first,
+        &mut second,
+        &mut third[..3],
+        &mut [0; 12],
+    );
+    assert_eq!(answer, u64::from(Reason::ShortList.number()) << 32);
+    assert_eq!([first, second, third], [[7; 4]; 3]);
+    let mut summary = [0; 2];
+    let answer = raw::plan(&NET_A, &mut first, &mut second, &mut third, &mut summary);
+    assert_eq!((answer, summary), (0, [4, 5]));
+}
+
+#[test]
+fn every_reason_has_its_number_and_words() {
+    for (number, &reason) in (1..).zip(Reason::ALL) {
+        assert_eq!(reason.number(), number);
+        assert_eq!(Reason::from_number(number), Some(reason));
+    }
+    assert_eq!(Reason::ALL.len(), 19);
+    assert_eq!(Reason::from_number(0), None);
+    assert_eq!(Reason::from_number(20), None);
+    let words: std::collections::HashSet<_> = Reason::ALL.iter().map(|r| r.words()).collect();
+    assert_eq!(words.len(), Reason::ALL.len());
+}
+
+#[test]
+fn refusals_in_words() {
+    let words = |reason, place| Refusal { reason, place }.to_string();
+    assert_eq!(
+        words(Reason::NotJoined, 1),
+        "refusal 9 at post 1: a post isn't joined to the source"
+    );
+    assert_eq!(
+        words(Reason::ShortRoom, 0),
+        "refusal 18: the room for the written record is too short"
+    );
+    assert_eq!(
+        words(Reason::SameEnds, 7),
+        "refusal 6 at segment 7: both ends of a segment are the same"
+    );
+    assert!(words(Reason::CutRecord, 3).starts_with("refusal 10 at byte 3: "));
+    assert!(words(Reason::Zero, 1).starts_with("refusal 15 at leg 1: "));
+    assert!(words(Reason::TooLong, 2).starts_with("refusal 17 at both legs: "));
+}
+
+fn shipped_examples() -> impl Iterator<Item = PathBuf> {
+    let folder = Path::new(env!("CARGO_MANIFEST_DIR")).join("../../examples");
+    fs::read_dir(folder)
+        .expect("the examples are there")
+        .map(|entry| entry.expect("readable").path())
+        .filter(|path| path.extension().is_some_and(|end| end == "record"))
+}
+
+#[test]
+fn shipped_examples_print_as_stored() {
+    let mut printed = 0;
+    for path in shipped_examples() {
+        let record = fs::read(&path).expect("readable");
+        let text = match plan(&record) {
+            Ok(plan) => plan.to_string(),
+            Err(refusal) => refusal.line() + "\n",
+        };
+        let stored = fs::read_to_string(path.with_extension("txt")).expect("readable");
+        assert_eq!(text, stored, "{}", path.display());
+        printed += 1;
+    }
+    assert!(printed >= 6, "{printed}");
+}
