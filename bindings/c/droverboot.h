@@ -1,0 +1,136 @@
+/* Droverboot: plans wire looms. The functions of the proved static library.
+ *
+ * A net is a number of posts, a source post, a ratio p/q and a list of
+ * segments; a segment joins two posts and has a length in sixteenths of a
+ * millimetre. A net comes as a record, a row of bytes.
+ *
+ * Every pointer is followed by the number of entries that it points to; no two
+ * of the lists that a call may write into overlap each other or the record.
+ * Where the number is 0 the pointer isn't followed.
+ *
+ * Whatever can't be done is refused: the answer then holds a number of
+ * enum drover_refusal and a place, see drover_number and drover_place, and all
+ * that was lent is as it was. No record makes a function fail otherwise.
+ */
+#ifndef DROVERBOOT_H
+#define DROVERBOOT_H
+
+#include <stddef.h>
+#include <stdint.h>
+
+#ifdef __cplusplus
+extern "C" {
+#endif
+
+/* The most posts and segments that a net may have. */
+#define DROVER_MOST_POSTS 256
+#define DROVER_MOST_SEGMENTS 2048
+
+/* The length of the longest good record. The answer for a longer row of bytes
+ * depends on its first DROVER_ENOUGH_BYTES only. */
+#define DROVER_LONGEST_RECORD 14346
+#define DROVER_ENOUGH_BYTES 14351
+
+/* A tree's entry for the source, which hangs on nothing. */
+#define DROVER_SOURCE_ENTRY 65535
+
+/* Why something was refused, and what its place is. */
+enum drover_refusal {
+    DROVER_POST_COUNT = 1,      /* post count 0 or above 256; 0 */
+    DROVER_SOURCE = 2,          /* source not below the post count; 0 */
+    DROVER_RATIO = 3,           /* q is 0, or p or q above 10,000; 0 */
+    DROVER_SEGMENT_COUNT = 4,   /* more than 2,048 segments; 0 */
+    DROVER_SEGMENT_END = 5,     /* a segment's end not below the post count; segment */
+    DROVER_SAME_ENDS = 6,       /* both ends of a segment the same; segment */
+    DROVER_SEGMENT_LENGTH = 7,  /* length 0 or above 1,048,575; segment */
+    DROVER_SHORT_LIST = 8,      /* a lent list has too few entries; 0 */
+    DROVER_NOT_JOINED = 9,      /* some post isn't joined to the source; lowest such post */
+    DROVER_CUT_RECORD = 10,     /* record ends before or inside a number; offset of that number */
+    DROVER_NUMBER_FORM = 11,    /* number not in its shortest form, or too long; its offset */
+    DROVER_EXTRA_BYTES = 12,    /* bytes after the last segment; offset of the first */
+    DROVER_NOT_FINITE = 13,     /* drawn length not finite; 0, second leg 1 */
+    DROVER_BELOW_ZERO = 14,     /* drawn length below zero; as 13 */
+    DROVER_ZERO = 15,           /* drawn length zero, of either sign; as 13 */
+    DROVER_NOT_SIXTEENTHS = 16, /* drawn length not a multiple of 1/16 mm; as 13 */
+    DROVER_TOO_LONG = 17,       /* drawn length above 65,535.9375 mm; as 13, legs together 2 */
+    DROVER_SHORT_ROOM = 18,     /* room for the written record too short; 0 */
+    DROVER_NO_SUCH_POST = 19    /* a post asked about isn't below the post count; 0 */
+};
+
+/* The three trees. */
+enum drover_tree {
+    DROVER_LIGHTEST = 0,
+    DROVER_SHORTEST = 1,
+    DROVER_BETWEEN = 2
+};
+
+/* The places of a summary. */
+enum drover_summary {
+    DROVER_POSTS = 0,
+    DROVER_SEGMENTS = 1,
+    DROVER_SOURCE_POST = 2,
+    DROVER_P = 3,
+    DROVER_Q = 4,
+    DROVER_LIGHTEST_LENGTH = 5,
+    DROVER_LIGHTEST_RADIUS = 6,
+    DROVER_SHORTEST_LENGTH = 7,
+    DROVER_SHORTEST_RADIUS = 8,
+    DROVER_BETWEEN_LENGTH = 9,
+    DROVER_BETWEEN_RADIUS = 10,
+    DROVER_LAID = 11,
+    DROVER_SUMMARY = 12 /* how many places there are */
+};
+
+/* In the answers of drover_rewrite and drover_drawn this bit marks a refusal. */
+#define DROVER_REFUSED ((uint64_t)1 << 63)
+
+/* The number of the refusal in an answer. */
+static inline uint32_t drover_number(uint64_t answer) {
+    return (uint32_t)((answer & ~DROVER_REFUSED) >> 32);
+}
+
+/* The place of the refusal in an answer. */
+static inline uint32_t drover_place(uint64_t answer) {
+    return (uint32_t)answer;
+}
+
+/* Reads a record. Answers 0 if it is good, or the refusal (1 to 7, 10 to 12). */
+uint64_t drover_check(const uint8_t *record, size_t record_length);
+
+/* Reads a record and builds its three trees. Each list needs an entry for each
+ * post; its entry for a post becomes the number of the segment by which the
+ * post hangs on its parent, or DROVER_SOURCE_ENTRY. Entries beyond the post
+ * count stay as they were. The summary takes as many of its numbers as it has
+ * places. Answers 0, or the refusal (1 to 12). */
+uint64_t drover_plan(const uint8_t *record, size_t record_length,
+                     uint16_t *lightest, size_t lightest_length,
+                     uint16_t *shortest, size_t shortest_length,
+                     uint16_t *between, size_t between_length,
+                     uint32_t *summary, size_t summary_length);
+
+/* Reads a record and writes it into the room. Answers the length written, or
+ * DROVER_REFUSED and the refusal (the reader's, or 18). Bytes beyond the length
+ * written stay as they were. */
+uint64_t drover_rewrite(const uint8_t *record, size_t record_length,
+                        uint8_t *room, size_t room_length);
+
+/* Reads a record and works out the margin of a post in one of its trees (enum
+ * drover_tree; any larger number is DROVER_BETWEEN): (p + q) times the post's
+ * least length from the source minus q times its path in the tree. It is below
+ * zero exactly when the post breaks the limit, and goes to the first entry of
+ * `out`, if there is one. Answers 0, or the refusal (as drover_plan, or 19). */
+uint64_t drover_margin(const uint8_t *record, size_t record_length,
+                       uint32_t tree, uint32_t post,
+                       int64_t *out, size_t out_length);
+
+/* Turns a drawn run into sixteenths of a millimetre. The run is straight if
+ * `corner` is 0, and its second length is then not looked at; else it is a
+ * corner with two legs. Lengths are given by the bits of a double, millimetres.
+ * Answers the length, or DROVER_REFUSED and the refusal (13 to 17). */
+uint64_t drover_drawn(uint32_t corner, uint64_t first_bits, uint64_t second_bits);
+
+#ifdef __cplusplus
+}
+#endif
+
+#endif
