@@ -1,8 +1,12 @@
-//! The inputs on which a subject is compared with the reference.
+//! The records on which a subject is compared with the reference.
 
 use generate::records::every_cut;
-use generate::{any_damaged, any_net, encode, special_nets, Random};
+use generate::{
+    any_damaged, any_net, damaged, encode, net_of, special_nets, spoil, Damage, Fault, Random,
+    Shape,
+};
 use reference::worked::{net_a, net_b, net_c, two_posts, RECORD_A};
+use reference::Net;
 
 /// Whether a case's record is that of a sound net, or a damaged one.
 #[derive(Clone, Copy, Debug, PartialEq, Eq)]
@@ -23,12 +27,23 @@ pub struct Case {
     /// The record.
     pub record: Vec<u8>,
     /// What else the comparison draws at random for this case.
-    #[cfg_attr(not(feature = "library"), allow(dead_code))]
     pub random: Random,
 }
 
-/// The inputs that are always the same: the worked and the special nets, every
-/// cut of the worked records, and net A's with each byte changed.
+/// A net whose numbers take as many bytes as they can.
+fn net_of_wide_numbers() -> Net {
+    let list = [
+        (128, 255, 1_048_575),
+        (200, 130, 16_384),
+        (255, 254, 300),
+        (0, 255, 127),
+    ];
+    Net::new(256, 255, (10_000, 9_999), &list)
+}
+
+/// The inputs that are always the same: the worked and the special nets; the
+/// worked records and one of wide numbers, cut at each byte; net A's with each
+/// byte changed; each fault of a net and each kind of damage.
 pub fn fixed_cases() -> Vec<Case> {
     let mut cases = Vec::new();
     let mut add = |kind, record: Vec<u8>| {
@@ -43,7 +58,9 @@ pub fn fixed_cases() -> Vec<Case> {
     for net in special_nets() {
         add(Kind::Net, encode(&net));
     }
-    for net in [net_a((1, 1)), net_b(), net_c(), two_posts()] {
+    let wide = net_of_wide_numbers();
+    add(Kind::Net, encode(&wide));
+    for net in [net_a((1, 1)), net_b(), net_c(), two_posts(), wide] {
         for cut in every_cut(&encode(&net)) {
             add(Kind::Damaged, cut.to_vec());
         }
@@ -54,6 +71,16 @@ pub fn fixed_cases() -> Vec<Case> {
             record[at] = byte;
             add(Kind::Damaged, record);
         }
+    }
+    let mut random = Random::new(0);
+    for fault in Fault::ALL {
+        let mut net = net_of(&mut random, Shape::Sparse);
+        spoil(&mut random, &mut net, fault);
+        add(Kind::Damaged, encode(&net));
+    }
+    for damage in Damage::ALL {
+        let net = net_of(&mut random, Shape::Sparse);
+        add(Kind::Damaged, damaged(&mut random, &net, damage));
     }
     cases
 }

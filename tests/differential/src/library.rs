@@ -1,175 +1,81 @@
-//! A static library with C functions as subject.
-//!
-//! The functions it must have, each on numbers and lent slices (a pointer and a
-//! length); a refusal is number × 2^32 + place:
-//!
-//! | Function | Does | Answers |
-//! |---|---|---|
-//! | `drover_plan` | reads a record and builds its trees into three lent lists and a summary of twelve numbers | 0, or the refusal |
-//! | `drover_rewrite` | reads a record and writes it into the lent room | the length written, or 2^63 + the refusal |
-//! | `drover_margin` | reads a record and puts the margin of a post in a tree (0 lightest, 1 shortest, 2 between) into the lent list's first entry | 0, or the refusal |
-//! | `drover_drawn` | turns a drawn run into a length; its lengths are given by their bits, the second only for a corner (1) | the length, or 2^63 + the refusal |
-//!
-//! The summary: posts, segments, source, p, q; length and radius of the
-//! lightest, the shortest and the between tree; the count of laid paths.
+//! The static library as subject: each of its functions on every case.
 //!
 //! Lent lists are made longer and shorter than needed and filled with canaries;
-//! what the reference leaves as it was must be left as it was. The summary and
-//! the margin's list are never lent too short, since document 01 doesn't know
-//! them.
+//! what the reference leaves as it was must be left as it was, and so must what
+//! stands before and after a list. Document 01 doesn't know the summary and the
+//! margin's list: a short summary takes as many numbers as it has places, and
+//! the margin goes to the first entry if there is one.
 
-use generate::{drawn, lent, Random};
-use reference::{build, drawn_length, margin, read, write_into, Built, Net, Refusal, Run, Tree};
+use generate::{drawn, encode, lent, special_nets, Random};
+use reference::net::MOST_LENGTH;
+use reference::record::LONGEST_RECORD;
+use reference::{
+    build, drawn_length, program_output, read, three_trees, write_into, Net, Refusal, Run, Tree,
+    Trees,
+};
 
 use crate::cases::Case;
-use crate::run::Difference;
+use crate::counts::Counts;
+use crate::functions::{nothing_or_refusal, number_or_refusal, summary, Functions, SUMMARY};
+use crate::lent::Lent;
+use crate::run::{Difference, Found, Lot, Subject};
 
-mod c {
-    extern "C" {
-        pub fn drover_plan(
-            record: *const u8,
-            record_length: usize,
-            lightest: *mut u16,
-            lightest_length: usize,
-            shortest: *mut u16,
-            shortest_length: usize,
-            between: *mut u16,
-            between_length: usize,
-            summary: *mut u32,
-            summary_length: usize,
-        ) -> u64;
-        pub fn drover_rewrite(
-            record: *const u8,
-            record_length: usize,
-            room: *mut u8,
-            room_length: usize,
-        ) -> u64;
-        pub fn drover_margin(
-            record: *const u8,
-            record_length: usize,
-            tree: u32,
-            post: u32,
-            out: *mut i64,
-            out_length: usize,
-        ) -> u64;
-        pub fn drover_drawn(corner: u32, first_bits: u64, second_bits: u64) -> u64;
-    }
-}
-
-/// How many numbers a summary has.
-const SUMMARY: usize = 12;
-/// Runs drawn for each case.
-const RUNS: u32 = 20;
-
-/// The refusal in an answer's lower 63 bits.
-fn refusal_in(answer: u64) -> Refusal {
-    Refusal {
-        number: (answer >> 32) as u32 & 0x7fff_ffff,
-        place: answer as u32,
-    }
-}
-
-/// An answer that is 0 or a refusal.
-fn nothing_or_refusal(answer: u64) -> Result<(), Refusal> {
-    match answer {
-        0 => Ok(()),
-        _ => Err(refusal_in(answer)),
-    }
-}
-
-/// An answer that is a number or, with the highest bit set, a refusal.
-fn number_or_refusal(answer: u64) -> Result<u64, Refusal> {
-    if answer >> 63 == 0 {
-        Ok(answer)
-    } else {
-        Err(refusal_in(answer))
-    }
-}
+/// Runs drawn for each case, of every kind that the generators know.
+const RUNS: u32 = 16;
+/// Runs of random bits drawn for each case.
+const RUNS_OF_BITS: u32 = 4;
+/// Lengths in one comparison of the lot that has every length.
+const LENGTHS_AT_ONCE: usize = 1 << 10;
 
 /// Three lent lists and a lent summary.
 #[derive(Clone, Debug, PartialEq)]
 struct PlanLists {
-    trees: [Vec<u16>; 3],
-    summary: Vec<u32>,
+    trees: [Lent<u16>; 3],
+    summary: Lent<u32>,
 }
 
-fn library_plan(record: &[u8], lists: &mut PlanLists) -> Result<(), Refusal> {
-    let [lightest, shortest, between] = &mut lists.trees;
-    // SAFETY: every pointer comes with the length of the slice it points to.
-    let answer = unsafe {
-        c::drover_plan(
-            record.as_ptr(),
-            record.len(),
-            lightest.as_mut_ptr(),
-            lightest.len(),
-            shortest.as_mut_ptr(),
-            shortest.len(),
-            between.as_mut_ptr(),
-            between.len(),
-            lists.summary.as_mut_ptr(),
-            lists.summary.len(),
-        )
-    };
-    nothing_or_refusal(answer)
-}
+impl PlanLists {
+    /// Lists for a net with this many posts: often long enough, at times not.
+    fn any(random: &mut Random, posts: usize) -> Self {
+        let short = random.chance(1, 4);
+        let mut list = || {
+            let length = if short {
+                lent::any_length(random, posts)
+            } else {
+                lent::long_enough(random, posts)
+            };
+            Lent::canaries(random, length)
+        };
+        let trees = [list(), list(), list()];
+        let summary_length = lent::any_length(random, SUMMARY);
+        PlanLists {
+            trees,
+            summary: Lent::canaries(random, summary_length),
+        }
+    }
 
-fn library_rewrite(record: &[u8], room: &mut [u8]) -> Result<u64, Refusal> {
-    // SAFETY: every pointer comes with the length of the slice it points to.
-    let answer =
-        unsafe { c::drover_rewrite(record.as_ptr(), record.len(), room.as_mut_ptr(), room.len()) };
-    number_or_refusal(answer)
-}
+    /// Builds the reference's trees into the lists.
+    fn build(&mut self, net: &Net) -> Result<(), Refusal> {
+        let [lightest, shortest, between] = &mut self.trees;
+        let built = build(net, lightest.part(), shortest.part(), between.part())?;
+        let numbers = summary(net, &built);
+        for (place, number) in self.summary.part().iter_mut().zip(numbers) {
+            *place = number;
+        }
+        Ok(())
+    }
 
-fn library_margin(record: &[u8], tree: u32, post: u32, out: &mut [i64]) -> Result<(), Refusal> {
-    // SAFETY: every pointer comes with the length of the slice it points to.
-    let answer = unsafe {
-        c::drover_margin(
-            record.as_ptr(),
-            record.len(),
-            tree,
-            post,
-            out.as_mut_ptr(),
-            out.len(),
-        )
-    };
-    nothing_or_refusal(answer)
-}
-
-fn library_drawn(run: Run) -> Result<u64, Refusal> {
-    let (corner, first, second) = match run {
-        Run::Straight(length) => (0, length, 0.0),
-        Run::Corner(first, second) => (1, first, second),
-    };
-    // SAFETY: the function takes numbers only.
-    let answer = unsafe { c::drover_drawn(corner, first.to_bits(), second.to_bits()) };
-    number_or_refusal(answer)
-}
-
-/// The numbers of a summary.
-pub fn summary(net: &Net, built: &Built) -> [u32; SUMMARY] {
-    let small = |number: u64| u32::try_from(number).expect("lengths are small");
-    [
-        net.posts,
-        net.segments.len() as u32,
-        net.source,
-        net.p,
-        net.q,
-        small(built.lightest.length),
-        small(built.lightest.radius),
-        small(built.shortest.length),
-        small(built.shortest.radius),
-        small(built.between.length),
-        small(built.between.radius),
-        built.laid,
-    ]
-}
-
-/// A list of canaries, no two neighbours alike.
-fn canaries<T: From<u8>>(random: &mut Random, length: usize) -> Vec<T> {
-    let first = random.below(200) as usize;
-    (first..first + length)
-        .map(|number| T::from((number % 251) as u8))
-        .collect()
+    /// The trees of a net in the lists, with the count of laid paths.
+    fn trees(&mut self, net: &Net, laid: u32) -> Trees {
+        let posts = net.posts as usize;
+        let [lightest, shortest, between] = &mut self.trees;
+        Trees {
+            lightest: lightest.part()[..posts].to_vec(),
+            shortest: shortest.part()[..posts].to_vec(),
+            between: between.part()[..posts].to_vec(),
+            laid,
+        }
+    }
 }
 
 fn equal<T: PartialEq + std::fmt::Debug>(
@@ -185,102 +91,272 @@ fn equal<T: PartialEq + std::fmt::Debug>(
     }
 }
 
-fn compare_plan(record: &[u8], posts: usize, random: &mut Random) -> Result<(), Difference> {
-    let short = random.chance(1, 4);
-    let mut entries = || {
-        if short {
-            lent::any_length(random, posts)
-        } else {
-            lent::long_enough(random, posts)
-        }
-    };
-    let lengths = [entries(), entries(), entries()];
-    let summary_length = lent::long_enough(random, SUMMARY);
-    let lists = PlanLists {
-        trees: lengths.map(|length| canaries(random, length)),
-        summary: canaries(random, summary_length),
-    };
-    let mut expected = lists.clone();
-    let [lightest, shortest, between] = &mut expected.trees;
-    let right = read(record).and_then(|net| {
-        let built = build(&net, lightest, shortest, between)?;
-        expected.summary[..SUMMARY].copy_from_slice(&summary(&net, &built));
+/// A record that is lent, and the reference's answers for it.
+struct Right<'r> {
+    record: &'r [u8],
+    net: Result<Net, Refusal>,
+    trees: Result<Trees, Refusal>,
+}
+
+impl<'r> Right<'r> {
+    fn of(record: &'r [u8]) -> Self {
+        let net = read(record);
+        let trees = match &net {
+            Ok(net) => three_trees(net),
+            Err(refusal) => Err(*refusal),
+        };
+        Right { record, net, trees }
+    }
+
+    /// The net, or the reader's refusal.
+    fn net(&self) -> Result<&Net, Refusal> {
+        self.net.as_ref().map_err(|refusal| *refusal)
+    }
+
+    /// The post count as far as it can be known, for lists that are near it.
+    fn posts(&self) -> u32 {
+        self.net.as_ref().map_or(3, |net| net.posts)
+    }
+
+    fn margin(&self, post: u32, tree: u32) -> Result<i64, Refusal> {
+        let which = match tree {
+            0 => Tree::Lightest,
+            1 => Tree::Shortest,
+            _ => Tree::Between,
+        };
+        let trees = self.trees.as_ref().map_err(|refusal| *refusal)?;
+        trees.margin(self.net()?, post, which)
+    }
+}
+
+/// The library as subject.
+pub struct Library<F> {
+    functions: F,
+}
+
+impl<F: Functions> Library<F> {
+    /// The library with these functions.
+    pub fn new(functions: F) -> Self {
+        Library { functions }
+    }
+
+    fn compare_check(&self, right: &Right, counts: &mut Counts) -> Result<(), Difference> {
+        let expected = right.net().map(|_| ());
+        let answer = self.functions.check(right.record);
+        equal("drover_check", nothing_or_refusal(expected), answer)?;
+        counts.answer(&expected);
         Ok(())
-    });
-    let mut got = lists;
-    let answer = library_plan(record, &mut got);
-    equal("drover_plan", (right, expected), (answer, got))
-}
-
-fn compare_rewrite(record: &[u8], random: &mut Random) -> Result<(), Difference> {
-    let length = lent::any_length(random, record.len());
-    let mut expected: Vec<u8> = canaries(random, length);
-    let mut got = expected.clone();
-    let right = read(record).and_then(|net| write_into(&net, &mut expected));
-    let right = right.map(|length| length as u64);
-    let answer = library_rewrite(record, &mut got);
-    equal("drover_rewrite", (right, expected), (answer, got))
-}
-
-fn compare_margin(record: &[u8], posts: u32, random: &mut Random) -> Result<(), Difference> {
-    let post = match random.below(6) {
-        0 => posts,
-        1 => random.bits() as u32,
-        _ => random.below(posts + 1),
-    };
-    for (number, tree) in (0..).zip(Tree::ALL) {
-        let length = lent::long_enough(random, 1);
-        let mut expected: Vec<i64> = canaries(random, length);
-        let mut got = expected.clone();
-        let right = read(record).and_then(|net| {
-            expected[0] = margin(&net, post, tree)?;
-            Ok(())
-        });
-        let answer = library_margin(record, number, post, &mut got);
-        equal("drover_margin", (right, expected), (answer, got))?;
     }
-    Ok(())
-}
 
-fn compare_drawn(run: Run) -> Result<(), Difference> {
-    let right = drawn_length(run).map(u64::from);
-    let answer = library_drawn(run);
-    if right == answer {
-        return Ok(());
-    }
-    let bits = match run {
-        Run::Straight(length) => format!("bits {:#x}", length.to_bits()),
-        Run::Corner(first, second) => {
-            format!("bits {:#x}, {:#x}", first.to_bits(), second.to_bits())
-        }
-    };
-    let expected = format!("{right:?} for {run:?}, {bits}");
-    Err(Difference::new(
-        "drover_drawn",
-        expected,
-        format!("{answer:?}"),
-    ))
-}
-
-/// Compares every function of the library on this case. The borders of drawn
-/// lengths go with the first of the fixed inputs.
-pub fn compare(case: &Case) -> Result<(), Difference> {
-    let mut random = case.random.clone();
-    let record = &case.record;
-    // The post count as far as it can be known, for lists that are near it.
-    let posts = read(record).map_or(3, |net| net.posts);
-    compare_plan(record, posts as usize, &mut random)?;
-    compare_rewrite(record, &mut random)?;
-    compare_margin(record, posts, &mut random)?;
-    for _ in 0..RUNS {
-        compare_drawn(drawn::any_run(&mut random))?;
-    }
-    if case.name == "fixed input 0" {
-        for length in drawn::borders() {
-            compare_drawn(Run::Straight(length))?;
-            compare_drawn(Run::Corner(length, 1.0))?;
-            compare_drawn(Run::Corner(1.0, length))?;
+    fn compare_plan(
+        &self,
+        right: &Right,
+        random: &mut Random,
+        counts: &mut Counts,
+    ) -> Result<(), Difference> {
+        let mut got = PlanLists::any(random, right.posts() as usize);
+        let mut lists = got.clone();
+        let expected = right.net().and_then(|net| lists.build(net));
+        let [lightest, shortest, between] = &mut got.trees;
+        let answer = self.functions.plan(
+            right.record,
+            lightest.part(),
+            shortest.part(),
+            between.part(),
+            got.summary.part(),
+        );
+        let answers = (nothing_or_refusal(expected), &lists);
+        equal("drover_plan", answers, (answer, &got))?;
+        counts.answer(&expected);
+        match (expected, &right.net, &right.trees) {
+            (Ok(()), Ok(net), Ok(trees)) => counts.trees(net, &got.trees(net, trees.laid)),
+            _ => Ok(()),
         }
     }
-    Ok(())
+
+    fn compare_rewrite(
+        &self,
+        right: &Right,
+        random: &mut Random,
+        counts: &mut Counts,
+    ) -> Result<(), Difference> {
+        let length = lent::any_length(random, right.record.len());
+        let mut got: Lent<u8> = Lent::canaries(random, length);
+        let mut room = got.clone();
+        let written = right.net().and_then(|net| write_into(net, room.part()));
+        let expected = written.map(|length| length as u64);
+        let answer = self.functions.rewrite(right.record, got.part());
+        let answers = (number_or_refusal(expected), room);
+        equal("drover_rewrite", answers, (answer, got))?;
+        counts.answer(&expected);
+        Ok(())
+    }
+
+    /// The margin of one post in each of the trees, and in the between tree by a
+    /// larger number.
+    fn compare_margins(
+        &self,
+        right: &Right,
+        random: &mut Random,
+        counts: &mut Counts,
+    ) -> Result<(), Difference> {
+        let post = match random.below(6) {
+            0 => right.posts(),
+            1 => random.bits() as u32,
+            _ => random.below(right.posts() + 1),
+        };
+        let larger = random.pick(&[3, 4, 256, 1 << 16, u32::MAX]);
+        for tree in [0, 1, 2, larger] {
+            let length = lent::any_length(random, 1);
+            let mut got: Lent<i64> = Lent::canaries(random, length);
+            let mut out = got.clone();
+            let expected = right.margin(post, tree).map(|margin| {
+                if let Some(first) = out.part().first_mut() {
+                    *first = margin;
+                }
+            });
+            let answer = self.functions.margin(right.record, tree, post, got.part());
+            let answers = (tree, post, nothing_or_refusal(expected), out);
+            equal("drover_margin", answers, (tree, post, answer, got))?;
+            counts.answer(&expected);
+            counts.margins += 1;
+        }
+        Ok(())
+    }
+
+    /// Compares a drawn run. A straight one is given any second length, and a
+    /// corner any number but 0.
+    fn compare_drawn(&self, run: Run, any: u64, counts: &mut Counts) -> Result<(), Difference> {
+        let expected = drawn_length(run).map(u64::from);
+        let (corner, first, second) = match run {
+            Run::Straight(length) => (0, length.to_bits(), any),
+            Run::Corner(first, second) => ((any as u32).max(1), first.to_bits(), second.to_bits()),
+        };
+        let answer = self.functions.drawn(corner, first, second);
+        counts.answer(&expected);
+        counts.runs += 1;
+        let right = number_or_refusal(expected);
+        if right == answer {
+            return Ok(());
+        }
+        let input = format!("{run:?}, given as {corner}, {first:#x}, {second:#x}");
+        let right = format!("{right} for {input}");
+        Err(Difference::new("drover_drawn", right, answer))
+    }
+
+    fn compare_runs(&self, random: &mut Random, counts: &mut Counts) -> Result<(), Difference> {
+        for _ in 0..RUNS {
+            // A corner is mostly given by 1.
+            let any = random.pick(&[1, 1, 2, 1 << 31, u64::MAX]);
+            self.compare_drawn(drawn::any_run(random), any, counts)?;
+        }
+        for _ in 0..RUNS_OF_BITS {
+            let [first, second] = [0; 2].map(|_| f64::from_bits(random.bits()));
+            self.compare_drawn(Run::Straight(first), random.bits(), counts)?;
+            self.compare_drawn(Run::Corner(first, second), random.bits(), counts)?;
+        }
+        Ok(())
+    }
+
+    fn compare_printed(&self, record: &[u8]) -> Result<(), Difference> {
+        let printed = self.functions.printed(record);
+        equal("bindings", program_output(record), printed)
+    }
+
+    /// Lengths at the borders of every refusal, straight and as either leg.
+    fn border_lot(&self) -> Lot<'_> {
+        let borders = drawn::borders();
+        Lot {
+            name: "drawn lengths at borders".to_owned(),
+            count: borders.len(),
+            compare: Box::new(move |number, counts| {
+                let length = borders[number];
+                let beside = borders[(number + 1) % borders.len()];
+                for run in [
+                    Run::Straight(length),
+                    Run::Corner(length, 1.0),
+                    Run::Corner(1.0, length),
+                    Run::Corner(length, length),
+                    Run::Corner(length, beside),
+                ] {
+                    self.compare_drawn(run, 1, counts)
+                        .map_err(|difference| Found::elsewhere("drawn lengths", difference))?;
+                }
+                Ok(())
+            }),
+        }
+    }
+
+    /// Every length that can be drawn, some at once.
+    fn length_lot(&self) -> Lot<'_> {
+        let most = MOST_LENGTH as usize;
+        Lot {
+            name: format!("every drawn length, {LENGTHS_AT_ONCE} at once"),
+            count: most / LENGTHS_AT_ONCE + 1,
+            compare: Box::new(move |number, counts| {
+                let first = number * LENGTHS_AT_ONCE;
+                for sixteenths in first..first + LENGTHS_AT_ONCE {
+                    let run = Run::Straight(sixteenths as f64 / 16.0);
+                    self.compare_drawn(run, 1, counts)
+                        .map_err(|difference| Found::elsewhere("drawn lengths", difference))?;
+                }
+                Ok(())
+            }),
+        }
+    }
+
+    /// The longest good record cut at each byte, and whole: checked only.
+    fn cut_lot(&self) -> Lot<'_> {
+        let longest = special_nets()
+            .iter()
+            .map(encode)
+            .max_by_key(Vec::len)
+            .expect("there are some");
+        assert_eq!(longest.len(), LONGEST_RECORD);
+        Lot {
+            name: "cuts of the longest record".to_owned(),
+            count: longest.len() + 1,
+            compare: Box::new(move |number, counts| {
+                let record = &longest[..number];
+                let expected = read(record).map(|_| ());
+                counts.answer(&expected);
+                let answer = self.functions.check(record);
+                equal("drover_check", nothing_or_refusal(expected), answer).map_err(|difference| {
+                    let input = format!("the longest record cut at byte {number}");
+                    Found::on_record(input, record.to_vec(), difference)
+                })
+            }),
+        }
+    }
+}
+
+impl<F: Functions> Subject for Library<F> {
+    fn name(&self) -> &str {
+        self.functions.name()
+    }
+
+    fn compare(&self, case: &Case, counts: &mut Counts) -> Result<(), Difference> {
+        let mut random = case.random.clone();
+        let mut lent = Lent::holding(&mut random, &case.record);
+        let before = lent.clone();
+        let record = lent.part();
+        let right = Right::of(record);
+        self.compare_check(&right, counts)?;
+        self.compare_plan(&right, &mut random, counts)?;
+        self.compare_rewrite(&right, &mut random, counts)?;
+        self.compare_margins(&right, &mut random, counts)?;
+        self.compare_runs(&mut random, counts)?;
+        self.compare_printed(record)?;
+        equal("record", before, lent)
+    }
+
+    fn more_lots(&self) -> Vec<Lot<'_>> {
+        vec![self.border_lot(), self.length_lot(), self.cut_lot()]
+    }
+
+    fn refusals(&self) -> &[u32] {
+        &[
+            1, 2, 3, 4, 5, 6, 7, 8, 9, 10, 11, 12, 13, 14, 15, 16, 17, 18, 19,
+        ]
+    }
 }

@@ -4,45 +4,55 @@
 //! ```text
 //! differential PROGRAM [--cases N] [--threads N] [--seed N]
 //! differential --library [--cases N] [--threads N] [--seed N]
+//! differential --stand-in [--cases N] [--threads N] [--seed N]
 //! ```
 //!
 //! PROGRAM is run once per record, which it gets on standard input; what it
-//! prints must be, byte for byte, what the reference prints. With the feature
-//! `library` a static library is compared instead.
+//! prints must be, byte for byte, what the reference prints. `--library` compares
+//! the static library instead, every function of it, if the feature `library` is
+//! on. `--stand-in` compares functions made from the reference, to test the
+//! comparison itself; the environment variable STAND_IN names a slip for them to
+//! make.
 //!
 //! Half of the cases come from a fixed seed and half from the clock; `--seed`
 //! takes the clock's place, so that a run can be repeated. The exit status is 0
 //! if all was equal, 1 at a difference and 2 if nothing could be compared.
 
 mod cases;
-#[cfg(feature = "library")]
+mod counts;
+mod functions;
+mod lent;
 mod library;
 mod program;
 mod run;
-#[cfg(feature = "stand-in-library")]
-mod stand_in_library;
+mod stand_in;
 
 use std::env;
 use std::process::ExitCode;
 use std::time::{SystemTime, UNIX_EPOCH};
 
-use run::Options;
+use library::Library;
+use program::Program;
+use run::{compare_all, Options};
+use stand_in::StandIn;
 
 /// What is compared with the reference.
-enum Subject {
+enum Chosen {
     Program(String),
     Library,
+    StandIn,
 }
 
-const USAGE: &str = "usage: differential PROGRAM | --library [--cases N] [--threads N] [--seed N]";
+const USAGE: &str =
+    "usage: differential PROGRAM | --library | --stand-in [--cases N] [--threads N] [--seed N]";
 
 /// Runs of a program when no number is given: each costs about a millisecond.
-const PROGRAM_CASES: u64 = 20_000;
+const PROGRAM_CASES: u64 = 8_000;
 /// Cases of a library when no number is given: as many nets as damaged records.
 const LIBRARY_CASES: u64 = 40_000;
 
-fn arguments() -> Option<(Subject, Options)> {
-    let mut subject = None;
+fn arguments() -> Option<(Chosen, Options)> {
+    let mut chosen = None;
     let mut cases = None;
     let mut threads = 2;
     let mut seed = None;
@@ -53,24 +63,25 @@ fn arguments() -> Option<(Subject, Options)> {
             "--cases" => cases = Some(number()?),
             "--threads" => threads = usize::try_from(number()?).ok()?.max(1),
             "--seed" => seed = Some(number()?),
-            "--library" if subject.is_none() => subject = Some(Subject::Library),
-            path if subject.is_none() && !path.starts_with("--") => {
-                subject = Some(Subject::Program(argument));
+            "--library" if chosen.is_none() => chosen = Some(Chosen::Library),
+            "--stand-in" if chosen.is_none() => chosen = Some(Chosen::StandIn),
+            path if chosen.is_none() && !path.starts_with("--") => {
+                chosen = Some(Chosen::Program(argument));
             }
             _ => return None,
         }
     }
-    let subject = subject?;
-    let cases = cases.unwrap_or(match subject {
-        Subject::Program(_) => PROGRAM_CASES,
-        Subject::Library => LIBRARY_CASES,
+    let chosen = chosen?;
+    let cases = cases.unwrap_or(match chosen {
+        Chosen::Program(_) => PROGRAM_CASES,
+        Chosen::Library | Chosen::StandIn => LIBRARY_CASES,
     });
     let options = Options {
         cases,
         threads,
         clock_seed: seed.unwrap_or_else(seed_from_the_clock),
     };
-    Some((subject, options))
+    Some((chosen, options))
 }
 
 fn seed_from_the_clock() -> u64 {
@@ -79,30 +90,39 @@ fn seed_from_the_clock() -> u64 {
         .map_or(0, |since| since.as_nanos() as u64 >> 10)
 }
 
-fn compare(subject: &Subject, options: &Options) -> ExitCode {
-    match subject {
-        Subject::Program(path) => {
-            let program = program::Program::new(path);
-            // Whatever can't be run at all isn't a difference.
-            if let Err(error) = program.output(&[]) {
-                eprintln!("{path}: {error}");
-                return ExitCode::from(2);
-            }
-            run::compare_all(path, options, |case| program.compare(case))
-        }
-        #[cfg(feature = "library")]
-        Subject::Library => run::compare_all("the library", options, library::compare),
-        #[cfg(not(feature = "library"))]
-        Subject::Library => {
-            eprintln!("built without the feature `library`");
+fn compare_program(path: &str, options: &Options) -> ExitCode {
+    let program = Program::new(path);
+    // Whatever can't be run at all isn't a difference.
+    match program.output(&[]) {
+        Ok(_) => compare_all(&program, options),
+        Err(error) => {
+            eprintln!("{path}: {error}");
             ExitCode::from(2)
         }
     }
 }
 
+#[cfg(feature = "library")]
+fn compare_library(options: &Options) -> ExitCode {
+    compare_all(&Library::new(functions::Linked), options)
+}
+
+#[cfg(not(feature = "library"))]
+fn compare_library(_: &Options) -> ExitCode {
+    eprintln!("built without the feature `library`");
+    ExitCode::from(2)
+}
+
+fn compare_stand_in(options: &Options) -> ExitCode {
+    let slip = env::var("STAND_IN").unwrap_or_default();
+    compare_all(&Library::new(StandIn::with_slip(&slip)), options)
+}
+
 fn main() -> ExitCode {
     match arguments() {
-        Some((subject, options)) => compare(&subject, &options),
+        Some((Chosen::Program(path), options)) => compare_program(&path, &options),
+        Some((Chosen::Library, options)) => compare_library(&options),
+        Some((Chosen::StandIn, options)) => compare_stand_in(&options),
         None => {
             eprintln!("{USAGE}");
             ExitCode::from(2)

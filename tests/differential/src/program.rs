@@ -1,18 +1,19 @@
 //! A program as subject: run once per record, through its standard input and
 //! output.
 
-use std::ffi::OsString;
 use std::io::{self, ErrorKind, Read, Write};
 use std::process::{Command, Stdio};
 
+use reference::program::planned;
 use reference::program_output;
 
 use crate::cases::Case;
-use crate::run::Difference;
+use crate::counts::Counts;
+use crate::run::{Difference, Subject};
 
 /// The program.
 pub struct Program {
-    path: OsString,
+    path: String,
 }
 
 impl Program {
@@ -47,19 +48,34 @@ impl Program {
         }
         Ok(output)
     }
+}
 
-    /// Compares the program's answer with the reference's.
-    pub fn compare(&self, case: &Case) -> Result<(), Difference> {
+impl Subject for Program {
+    fn name(&self) -> &str {
+        &self.path
+    }
+
+    /// Compares what is printed. The trees that are held to the bounds are the
+    /// reference's, and the program's are the same then.
+    fn compare(&self, case: &Case, counts: &mut Counts) -> Result<(), Difference> {
         let expected = program_output(&case.record);
         let got = match self.output(&case.record) {
             Ok(output) => output,
             Err(error) => return Err(Difference::new("program", expected, error)),
         };
-        if got == expected.as_bytes() {
-            Ok(())
-        } else {
+        if got != expected.as_bytes() {
             let got = String::from_utf8_lossy(&got);
-            Err(Difference::new("program", expected, got))
+            return Err(Difference::new("program", expected, got));
         }
+        let right = planned(&case.record);
+        counts.answer(&right);
+        match right {
+            Ok((net, trees)) => counts.trees(&net, &trees),
+            Err(_) => Ok(()),
+        }
+    }
+
+    fn refusals(&self) -> &[u32] {
+        &[1, 2, 3, 4, 5, 6, 7, 9, 10, 11, 12]
     }
 }

@@ -1,15 +1,12 @@
-//! Running the cases over some threads, and reporting.
+//! Running the comparisons over some threads, and reporting.
 
-use std::collections::BTreeMap;
 use std::process::ExitCode;
 use std::sync::atomic::{AtomicBool, AtomicUsize, Ordering};
 use std::sync::Mutex;
 use std::thread;
 
-use reference::broken_bound;
-use reference::program::planned;
-
-use crate::cases::{fixed_cases, random_case, Case, Kind};
+use crate::cases::{fixed_cases, random_case, Case};
+use crate::counts::Counts;
 
 /// The seed that never changes.
 pub const FIXED_SEED: u64 = 8_003;
@@ -40,85 +37,92 @@ impl Difference {
             got: got.to_string(),
         }
     }
-
-    fn report(&self, case: &Case) {
-        println!("DIFFERENCE ({}) in {}", self.what, case.name);
-        println!("record of {} bytes, in decimal:", case.record.len());
-        let bytes: Vec<String> = case.record.iter().map(u8::to_string).collect();
-        println!("{}", bytes.join(" "));
-        println!("expected:\n{}", self.expected);
-        println!("got:\n{}", self.got);
-    }
 }
 
-/// Counts over the cases compared.
-#[derive(Default)]
-struct Counts {
-    nets: u64,
-    damaged: u64,
-    built: u64,
-    refused: BTreeMap<u32, u64>,
+/// A difference and the input that shows it.
+pub struct Found {
+    input: String,
+    record: Option<Vec<u8>>,
+    difference: Difference,
 }
 
-impl Counts {
-    /// Counts a case by its kind and the reference's answer, and checks the
-    /// bounds where there are trees. Those of the subject are the same, since
-    /// they were compared.
-    fn count(&mut self, case: &Case) -> Result<(), Difference> {
-        match case.kind {
-            Kind::Net => self.nets += 1,
-            Kind::Damaged => self.damaged += 1,
-        }
-        match planned(&case.record) {
-            Ok((net, trees)) => {
-                self.built += 1;
-                if let Some(broken) = broken_bound(&net, &trees) {
-                    return Err(Difference::new("bounds", "all bounds hold", broken));
-                }
-            }
-            Err(refusal) => *self.refused.entry(refusal.number).or_default() += 1,
-        }
-        Ok(())
-    }
-
-    fn add(&mut self, other: Counts) {
-        self.nets += other.nets;
-        self.damaged += other.damaged;
-        self.built += other.built;
-        for (number, count) in other.refused {
-            *self.refused.entry(number).or_default() += count;
+impl Found {
+    /// A difference on a record.
+    pub fn on_record(input: String, record: Vec<u8>, difference: Difference) -> Self {
+        Found {
+            input,
+            record: Some(record),
+            difference,
         }
     }
 
-    fn report(&self, subject: &str) {
-        let refused: Vec<String> = self
-            .refused
-            .iter()
-            .map(|(number, count)| format!("{number}: {count}"))
-            .collect();
-        println!("refusals met: {}", refused.join(", "));
-        println!("bounds hold on the trees of {} built nets", self.built);
-        println!(
-            "{} nets and {} damaged records compared with {subject}: all equal",
-            self.nets, self.damaged
-        );
+    /// A difference on what isn't a record; the difference names it.
+    pub fn elsewhere(input: &str, difference: Difference) -> Self {
+        Found {
+            input: input.to_owned(),
+            record: None,
+            difference,
+        }
+    }
+
+    fn report(&self) {
+        println!("DIFFERENCE ({}) in {}", self.difference.what, self.input);
+        if let Some(record) = &self.record {
+            println!("record of {} bytes, in decimal:", record.len());
+            let bytes: Vec<String> = record.iter().map(u8::to_string).collect();
+            println!("{}", bytes.join(" "));
+        }
+        println!("expected:\n{}", self.difference.expected);
+        println!("got:\n{}", self.difference.got);
     }
 }
 
-/// Some cases, numbered from 0, each made when it is needed.
-struct Lot<'l> {
-    name: String,
-    count: usize,
-    case: Box<dyn Fn(usize) -> Case + Sync + 'l>,
+/// Some comparisons, numbered from 0, each made when its turn comes.
+pub struct Lot<'l> {
+    /// What is compared, in words.
+    pub name: String,
+    /// How many there are.
+    pub count: usize,
+    /// Makes the comparison with this number.
+    #[allow(clippy::type_complexity)]
+    pub compare: Box<dyn Fn(usize, &mut Counts) -> Result<(), Found> + Sync + 'l>,
+}
+
+/// What is compared with the reference.
+pub trait Subject: Sync {
+    /// What it is, in words.
+    fn name(&self) -> &str;
+
+    /// Compares one case.
+    fn compare(&self, case: &Case, counts: &mut Counts) -> Result<(), Difference>;
+
+    /// What is compared besides the cases.
+    fn more_lots(&self) -> Vec<Lot<'_>> {
+        Vec::new()
+    }
+
+    /// The numbers of the refusals that must be met.
+    fn refusals(&self) -> &[u32];
+}
+
+fn compare_case(subject: &dyn Subject, case: Case, counts: &mut Counts) -> Result<(), Found> {
+    match subject.compare(&case, counts) {
+        Ok(()) => {
+            counts.record(case.kind);
+            Ok(())
+        }
+        Err(difference) => Err(Found::on_record(case.name, case.record, difference)),
+    }
 }
 
 /// The fixed inputs, and half of the random cases for each seed.
-fn lots<'l>(options: &Options, fixed: &'l [Case]) -> Vec<Lot<'l>> {
+fn lots<'l>(subject: &'l dyn Subject, options: &Options, fixed: &'l [Case]) -> Vec<Lot<'l>> {
     let mut lots = vec![Lot {
         name: "fixed inputs".to_owned(),
         count: fixed.len(),
-        case: Box::new(|number| fixed[number].clone()),
+        compare: Box::new(|number, counts| compare_case(subject, fixed[number].clone(), counts)),
     }];
+    lots.extend(subject.more_lots());
     let first_half = options.cases.div_ceil(2);
     for (origin, seed, cases) in [
         ("fixed", FIXED_SEED, first_half),
@@ -127,22 +131,20 @@ fn lots<'l>(options: &Options, fixed: &'l [Case]) -> Vec<Lot<'l>> {
         lots.push(Lot {
             name: format!("seed {seed} ({origin})"),
             count: usize::try_from(cases).expect("not that many"),
-            case: Box::new(move |number| random_case(seed, number as u64)),
+            compare: Box::new(move |number, counts| {
+                compare_case(subject, random_case(seed, number as u64), counts)
+            }),
         });
     }
     lots
 }
 
-/// Compares all cases of a lot. The first difference that is found ends it.
-fn compare_lot(
-    lot: &Lot,
-    threads: usize,
-    compare: impl Fn(&Case) -> Result<(), Difference> + Sync,
-) -> Result<Counts, Box<(Case, Difference)>> {
+/// Makes all comparisons of a lot. The first difference that is found ends it.
+fn compare_lot(lot: &Lot, threads: usize) -> Result<Counts, Box<Found>> {
     let next = AtomicUsize::new(0);
     let stop = AtomicBool::new(false);
     let counts = Mutex::new(Counts::default());
-    let different: Mutex<Vec<(usize, Case, Difference)>> = Mutex::default();
+    let different: Mutex<Vec<(usize, Found)>> = Mutex::default();
     let work = || {
         let mut own = Counts::default();
         while !stop.load(Ordering::Relaxed) {
@@ -150,11 +152,9 @@ fn compare_lot(
             if number >= lot.count {
                 break;
             }
-            let case = (lot.case)(number);
-            if let Err(difference) = compare(&case).and_then(|()| own.count(&case)) {
+            if let Err(found) = (lot.compare)(number, &mut own) {
                 stop.store(true, Ordering::Relaxed);
-                let mut found = different.lock().expect("no panics");
-                found.push((number, case, difference));
+                different.lock().expect("no panics").push((number, found));
             }
         }
         counts.lock().expect("no panics").add(own);
@@ -164,39 +164,39 @@ fn compare_lot(
             scope.spawn(work);
         }
     });
-    let found = different.into_inner().expect("no panics");
-    match found.into_iter().min_by_key(|&(number, ..)| number) {
+    let different = different.into_inner().expect("no panics");
+    match different.into_iter().min_by_key(|&(number, _)| number) {
         None => Ok(counts.into_inner().expect("no panics")),
-        Some((_, case, difference)) => Err(Box::new((case, difference))),
+        Some((_, found)) => Err(Box::new(found)),
     }
 }
 
-/// Compares the fixed inputs and the cases of both seeds, and says how many of
-/// them were equal, or where the first difference is.
-pub fn compare_all(
-    subject: &str,
-    options: &Options,
-    compare: impl Fn(&Case) -> Result<(), Difference> + Sync,
-) -> ExitCode {
+/// Compares the fixed inputs, the cases of both seeds and whatever else the
+/// subject has, and says how many of them were equal, or where the first
+/// difference is.
+pub fn compare_all(subject: &dyn Subject, options: &Options) -> ExitCode {
     println!(
         "seeds: {FIXED_SEED} (fixed), {} (clock; repeat it with --seed)",
         options.clock_seed
     );
     let fixed = fixed_cases();
     let mut all = Counts::default();
-    for lot in lots(options, &fixed) {
-        match compare_lot(&lot, options.threads, &compare) {
+    for lot in lots(subject, options, &fixed) {
+        match compare_lot(&lot, options.threads) {
             Ok(counts) => {
                 println!("{}: {} equal", lot.name, lot.count);
                 all.add(counts);
             }
             Err(found) => {
-                let (case, difference) = *found;
-                difference.report(&case);
+                found.report();
                 return ExitCode::FAILURE;
             }
         }
     }
-    all.report(subject);
+    if let Some(number) = all.never_met(subject.refusals()) {
+        println!("refusal {number} was never met: the inputs say too little");
+        return ExitCode::FAILURE;
+    }
+    all.report(subject.name());
     ExitCode::SUCCESS
 }

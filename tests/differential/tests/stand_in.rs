@@ -74,23 +74,68 @@ fn what_cannot_be_run_is_no_difference() {
     assert_eq!(differential("", &["a", "--cases"]).status.code(), Some(2));
 }
 
-#[cfg(feature = "stand-in-library")]
-#[test]
-fn the_library_made_from_the_reference_equals_it() {
+fn compared_functions(slip: &str, cases: &str) -> (Option<i32>, String) {
     let arguments = [
-        "--library",
+        "--stand-in",
         "--cases",
-        "2000",
+        cases,
         "--seed",
         "5",
         "--threads",
         "1",
     ];
-    let output = differential("", &arguments);
-    let text = String::from_utf8_lossy(&output.stdout);
-    assert_eq!(output.status.code(), Some(0), "{text}");
-    for slip in ["Beyond", "Touched", "Wrong"] {
-        let output = differential(slip, &arguments);
-        assert_eq!(output.status.code(), Some(1), "{slip}");
+    let output = differential(slip, &arguments);
+    let text = String::from_utf8(output.stdout).expect("text");
+    (output.status.code(), text)
+}
+
+#[test]
+fn functions_made_from_the_reference_equal_it() {
+    let (status, text) = compared_functions("", "600");
+    assert_eq!(status, Some(0), "{text}");
+    assert!(text.contains("seed 8003 (fixed): 300 equal"), "{text}");
+    assert!(text.contains("seed 5 (clock): 300 equal"), "{text}");
+    assert!(text.contains("the stand-in: all equal"), "{text}");
+    assert!(text.contains(" margins, "), "{text}");
+    for number in 1..=19 {
+        assert!(text.contains(&format!(" {number}: ")), "{number}: {text}");
     }
+}
+
+#[test]
+fn every_slip_of_the_functions_is_caught() {
+    for (slip, function) in [
+        ("NotesAsPaths", "drover_plan"),
+        ("NoTryBack", "drover_plan"),
+        ("ScaledInnerTest", "drover_plan"),
+        ("LaidAtEquality", "drover_plan"),
+        ("TriedAtEquality", "drover_plan"),
+        ("Accepting", "drover_check"),
+        ("Beyond", "drover_plan"),
+        ("OutOfBounds", "drover_plan"),
+        ("Touched", "drover_plan"),
+        ("LateLists", "drover_plan"),
+        ("WholeSummary", "drover_plan"),
+        ("Spilt", "drover_rewrite"),
+        ("Unmarked", "drover_rewrite"),
+        ("Turned", "drover_margin"),
+        ("OtherTree", "drover_margin"),
+        ("Long", "drover_drawn"),
+        ("NotANumber", "drover_drawn"),
+        ("OneCorner", "drover_drawn"),
+        ("Silent", "bindings"),
+    ] {
+        let (status, text) = compared_functions(slip, "1000");
+        assert_eq!(status, Some(1), "{slip}: {text}");
+        let reported = format!("DIFFERENCE ({function}) in ");
+        assert!(text.contains(&reported), "{slip}: {text}");
+    }
+}
+
+#[test]
+fn a_slip_of_the_functions_is_shown_with_its_record() {
+    let (_, text) = compared_functions("Silent", "0");
+    // The first fixed input is net A.
+    let shown = "in fixed input 0\nrecord of 20 bytes, in decimal:\n4 0 1 1 5 0 1 4 ";
+    assert!(text.contains(shown), "{text}");
 }

@@ -78,6 +78,19 @@ impl Trees {
             laid: self.laid,
         }
     }
+
+    /// The margin of a post in one of these trees, which are the net's:
+    /// (p + q) × D minus q × path. Refusal 19.
+    pub fn margin(&self, net: &Net, post: u32, which: Tree) -> Result<i64, Refusal> {
+        if post >= net.posts {
+            return Err(Refusal::new(19, 0));
+        }
+        let signed = |length: u64| i64::try_from(length).expect("lengths are small");
+        let least = signed(least_lengths(net)[post as usize]);
+        let path = path(net, self.tree(which), post).expect("a tree comes to the source");
+        let (p, q) = (i64::from(net.p), i64::from(net.q));
+        Ok((p + q) * least - q * signed(path))
+    }
 }
 
 /// The trees of a net that is known to be sound and joined.
@@ -129,13 +142,5 @@ pub fn build(
 /// The margin of a post in one of the three trees, worked out afresh:
 /// (p + q) × D minus q × path. Refusals 1 to 7, then 9, then 19.
 pub fn margin(net: &Net, post: u32, which: Tree) -> Result<i64, Refusal> {
-    let trees = three_trees(net)?;
-    if post >= net.posts {
-        return Err(Refusal::new(19, 0));
-    }
-    let signed = |length: u64| i64::try_from(length).expect("lengths are small");
-    let least = signed(least_lengths(net)[post as usize]);
-    let path = path(net, trees.tree(which), post).expect("a tree comes to the source");
-    let (p, q) = (i64::from(net.p), i64::from(net.q));
-    Ok((p + q) * least - q * signed(path))
+    three_trees(net)?.margin(net, post, which)
 }

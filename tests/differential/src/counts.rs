@@ -1,0 +1,84 @@
+//! What was compared, and how often.
+
+use std::collections::BTreeMap;
+
+use reference::{broken_bound, Net, Refusal, Trees};
+
+use crate::cases::Kind;
+use crate::run::Difference;
+
+/// Counts over all that was compared.
+#[derive(Default)]
+pub struct Counts {
+    nets: u64,
+    damaged: u64,
+    built: u64,
+    /// How many margins were compared.
+    pub margins: u64,
+    /// How many drawn runs were compared.
+    pub runs: u64,
+    refused: BTreeMap<u32, u64>,
+}
+
+impl Counts {
+    /// Counts a record.
+    pub fn record(&mut self, kind: Kind) {
+        match kind {
+            Kind::Net => self.nets += 1,
+            Kind::Damaged => self.damaged += 1,
+        }
+    }
+
+    /// Counts an answer that was right and, if it is one, the refusal in it.
+    pub fn answer<T>(&mut self, answer: &Result<T, Refusal>) {
+        if let Err(refusal) = answer {
+            *self.refused.entry(refusal.number).or_default() += 1;
+        }
+    }
+
+    /// Counts the trees of a net that a subject built, after holding them to the
+    /// bounds by the reference's own sums.
+    pub fn trees(&mut self, net: &Net, trees: &Trees) -> Result<(), Difference> {
+        self.built += 1;
+        match broken_bound(net, trees) {
+            None => Ok(()),
+            Some(broken) => Err(Difference::new("bounds", "all bounds hold", broken)),
+        }
+    }
+
+    /// Adds what another thread counted.
+    pub fn add(&mut self, other: Counts) {
+        self.nets += other.nets;
+        self.damaged += other.damaged;
+        self.built += other.built;
+        self.margins += other.margins;
+        self.runs += other.runs;
+        for (number, count) in other.refused {
+            *self.refused.entry(number).or_default() += count;
+        }
+    }
+
+    /// The first of these refusals that was never met.
+    pub fn never_met(&self, numbers: &[u32]) -> Option<u32> {
+        let met = |number: &u32| self.refused.contains_key(number);
+        numbers.iter().copied().find(|number| !met(number))
+    }
+
+    /// Prints what was compared, all of it equal.
+    pub fn report(&self, subject: &str) {
+        let refused: Vec<String> = self
+            .refused
+            .iter()
+            .map(|(number, count)| format!("{number}: {count}"))
+            .collect();
+        println!("refusals met: {}", refused.join(", "));
+        println!("bounds hold on the trees of {} built nets", self.built);
+        if self.margins + self.runs > 0 {
+            println!("{} margins, {} drawn runs", self.margins, self.runs);
+        }
+        println!(
+            "{} nets and {} damaged records compared with {subject}: all equal",
+            self.nets, self.damaged
+        );
+    }
+}

@@ -1,0 +1,211 @@
+//! The library's functions made from the reference, to test the comparison of a
+//! library without one. They can make a slip on purpose.
+
+use reference::slips::{drawn_by_refusal, slipped_trees, Slip};
+use reference::{
+    build, drawn_length, margin, program_output, read, three_trees, write_into, Net, Refusal, Run,
+    Tree,
+};
+
+use crate::functions::{nothing_or_refusal, number_or_refusal, summary, Functions};
+
+/// Something for the stand-in to do wrong.
+#[derive(Clone, Copy, Debug, PartialEq, Eq)]
+enum Fault {
+    /// A slip in the walk that makes the third tree.
+    Walk(Slip),
+    /// Checking accepts every record.
+    Accepting,
+    /// Planning writes an entry beyond the post count.
+    Beyond,
+    /// Planning writes beyond the end of a list.
+    OutOfBounds,
+    /// Planning writes before it refuses.
+    Touched,
+    /// Planning refuses with 9 before 8.
+    LateLists,
+    /// Planning refuses a short summary with 8.
+    WholeSummary,
+    /// Writing changes a byte beyond the record.
+    Spilt,
+    /// Writing marks a refusal as if it were a length.
+    Unmarked,
+    /// A margin has the other sign.
+    Turned,
+    /// A tree's number above 2 is taken for the lightest tree.
+    OtherTree,
+    /// A drawn length is one too long.
+    Long,
+    /// A not-a-number is accepted.
+    NotANumber,
+    /// Only 1 makes a corner.
+    OneCorner,
+    /// The bindings print something else.
+    Silent,
+}
+
+const FAULTS: [Fault; 14] = [
+    Fault::Accepting,
+    Fault::Beyond,
+    Fault::OutOfBounds,
+    Fault::Touched,
+    Fault::LateLists,
+    Fault::WholeSummary,
+    Fault::Spilt,
+    Fault::Unmarked,
+    Fault::Turned,
+    Fault::OtherTree,
+    Fault::Long,
+    Fault::NotANumber,
+    Fault::OneCorner,
+    Fault::Silent,
+];
+
+/// The stand-in.
+pub struct StandIn {
+    fault: Option<Fault>,
+}
+
+impl StandIn {
+    /// The stand-in that does wrong what is named, and nothing if the name is
+    /// that of no slip.
+    pub fn with_slip(name: &str) -> Self {
+        let walk = Slip::named(name).map(Fault::Walk);
+        let named = |fault: &Fault| format!("{fault:?}") == name;
+        StandIn {
+            fault: walk.or(FAULTS.into_iter().find(named)),
+        }
+    }
+
+    fn does(&self, fault: Fault) -> bool {
+        self.fault == Some(fault)
+    }
+
+    /// Writes where nothing is lent, but within the guards.
+    fn write_out_of_bounds(list: &mut [u16]) {
+        // SAFETY: the comparison lends the inner part of a longer list.
+        unsafe { *list.as_mut_ptr().add(list.len()) ^= 1 }
+    }
+
+    fn build(&self, net: &Net, lists: [&mut [u16]; 3], out: &mut [u32]) -> Result<(), Refusal> {
+        let [lightest, shortest, between] = lists;
+        if self.does(Fault::LateLists) {
+            three_trees(net)?;
+        }
+        let mut built = build(net, lightest, shortest, between)?;
+        if self.does(Fault::WholeSummary) && out.len() < 12 {
+            return Err(Refusal::new(8, 0));
+        }
+        if let Some(Fault::Walk(slip)) = self.fault {
+            let (trees, greatest_note) = slipped_trees(net, &three_trees(net)?, slip);
+            between[..trees.between.len()].copy_from_slice(&trees.between);
+            built = trees.built(net);
+            if slip == Slip::NotesAsPaths {
+                built.between.radius = greatest_note;
+            }
+        }
+        for (place, number) in out.iter_mut().zip(summary(net, &built)) {
+            *place = number;
+        }
+        if self.does(Fault::Beyond) {
+            if let Some(entry) = between.get_mut(net.posts as usize) {
+                *entry ^= 1;
+            }
+        }
+        if self.does(Fault::OutOfBounds) {
+            StandIn::write_out_of_bounds(shortest);
+        }
+        Ok(())
+    }
+
+    fn drawn_length(&self, run: Run) -> Result<u64, Refusal> {
+        let length = match run {
+            Run::Straight(length) if self.does(Fault::NotANumber) => drawn_by_refusal(length),
+            _ => drawn_length(run),
+        };
+        length.map(|length| u64::from(length) + u64::from(self.does(Fault::Long)))
+    }
+}
+
+impl Functions for StandIn {
+    fn name(&self) -> &str {
+        "the stand-in"
+    }
+
+    fn check(&self, record: &[u8]) -> u64 {
+        match read(record) {
+            Err(_) if self.does(Fault::Accepting) => 0,
+            answer => nothing_or_refusal(answer.map(|_| ())),
+        }
+    }
+
+    fn plan(
+        &self,
+        record: &[u8],
+        lightest: &mut [u16],
+        shortest: &mut [u16],
+        between: &mut [u16],
+        summary: &mut [u32],
+    ) -> u64 {
+        if self.does(Fault::Touched) {
+            if let Some(entry) = shortest.first_mut() {
+                *entry ^= 1;
+            }
+        }
+        let lists = [lightest, shortest, between];
+        nothing_or_refusal(read(record).and_then(|net| self.build(&net, lists, summary)))
+    }
+
+    fn rewrite(&self, record: &[u8], room: &mut [u8]) -> u64 {
+        let length = read(record).and_then(|net| write_into(&net, room));
+        match length {
+            Ok(length) if self.does(Fault::Spilt) => {
+                if let Some(byte) = room.get_mut(length) {
+                    *byte ^= 1;
+                }
+            }
+            Err(refusal) if self.does(Fault::Unmarked) => return nothing_or_refusal(Err(refusal)),
+            _ => {}
+        }
+        number_or_refusal(length.map(|length| length as u64))
+    }
+
+    fn margin(&self, record: &[u8], tree: u32, post: u32, out: &mut [i64]) -> u64 {
+        let which = match tree {
+            0 => Tree::Lightest,
+            1 => Tree::Shortest,
+            2 => Tree::Between,
+            _ if self.does(Fault::OtherTree) => Tree::Lightest,
+            _ => Tree::Between,
+        };
+        let margin = read(record).and_then(|net| margin(&net, post, which));
+        nothing_or_refusal(margin.map(|margin| {
+            if let Some(first) = out.first_mut() {
+                *first = if self.does(Fault::Turned) {
+                    -margin
+                } else {
+                    margin
+                };
+            }
+        }))
+    }
+
+    fn drawn(&self, corner: u32, first_bits: u64, second_bits: u64) -> u64 {
+        let [first, second] = [first_bits, second_bits].map(f64::from_bits);
+        let straight = corner == 0 || self.does(Fault::OneCorner) && corner != 1;
+        let run = if straight {
+            Run::Straight(first)
+        } else {
+            Run::Corner(first, second)
+        };
+        number_or_refusal(self.drawn_length(run))
+    }
+
+    fn printed(&self, record: &[u8]) -> String {
+        if self.does(Fault::Silent) {
+            String::new()
+        } else {
+            program_output(record)
+        }
+    }
+}
