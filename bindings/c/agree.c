@@ -30,7 +30,7 @@ static const uint8_t apart[] = {2, 0, 1, 1, 0};
 static void check(void) {
     expect(drover_check(net_a, sizeof net_a) == 0, "check of net A");
     expect(drover_check(net_a, 19) == refusal(DROVER_CUT_RECORD, 19), "check of a cut record");
-    expect(drover_check(net_a, 0) == refusal(DROVER_CUT_RECORD, 0), "check of no byte");
+    expect(drover_check(NULL, 0) == refusal(DROVER_CUT_RECORD, 0), "check of no byte");
     expect(drover_check(apart, sizeof apart) == 0, "check of two posts apart");
 }
 
@@ -45,6 +45,8 @@ static void plan(void) {
     expect(drover_plan(net_a, sizeof net_a, trees[0], 5, trees[1], 3, trees[2], 5, summary, DROVER_SUMMARY) ==
                refusal(DROVER_SHORT_LIST, 0), "plan with a short list");
     expect(trees[0][0] == 99 && trees[2][0] == 99 && summary[0] == 0, "lists after a refusal");
+    expect(drover_plan(net_a, sizeof net_a, trees[0], 5, trees[1], 5, NULL, 0, NULL, 0) ==
+               refusal(DROVER_SHORT_LIST, 0), "plan with no list");
     expect(drover_plan(apart, sizeof apart, trees[0], 5, trees[1], 5, trees[2], 5, summary, DROVER_SUMMARY) ==
                refusal(DROVER_NOT_JOINED, 1), "plan of two posts apart");
     expect(drover_plan(net_a, sizeof net_a, trees[0], 5, trees[1], 5, trees[2], 5, summary, DROVER_SUMMARY) == 0,
@@ -68,6 +70,7 @@ static void margin(void) {
     expect(out[0] == -2 && out[1] == 99, "margin in the lightest tree");
     expect(drover_margin(net_a, sizeof net_a, DROVER_BETWEEN, 3, out, 2) == 0 && out[0] == 5,
            "margin in the between tree");
+    expect(drover_margin(net_a, sizeof net_a, DROVER_BETWEEN, 3, NULL, 0) == 0, "margin without a place for it");
     expect(drover_margin(net_a, sizeof net_a, DROVER_SHORTEST, 4, out, 2) == refusal(DROVER_NO_SUCH_POST, 0),
            "margin of no post");
 }

@@ -245,3 +245,34 @@ fn shipped_examples_print_as_stored() {
     }
     assert!(printed >= 6, "{printed}");
 }
+
+/// 256 posts on a path, and a direct segment to each: the deepest walk there is,
+/// and a path laid at each post.
+fn deepest_net() -> Vec<u8> {
+    let number = |value: u32| match value {
+        0..128 => vec![value as u8],
+        _ => vec![value as u8 | 128, (value >> 7) as u8],
+    };
+    let mut record = [256, 0, 0, 1, 255 + 254].map(number).concat();
+    for post in 1..256 {
+        record.extend([post - 1, post, 4].map(number).concat());
+    }
+    for post in 2..256 {
+        record.extend([0, post, 5].map(number).concat());
+    }
+    record
+}
+
+#[test]
+fn a_call_takes_little_of_the_stack() {
+    let thread = std::thread::Builder::new().stack_size(256 << 10);
+    let planned = thread.spawn(|| {
+        let record = deepest_net();
+        let margin = margin(&record, Tree::Between, 255).expect("planned");
+        let written = rewrite(&record).expect("written");
+        assert_eq!(written, record);
+        (plan(&record).expect("planned").laid, margin)
+    });
+    let planned = planned.expect("a thread").join().expect("no panic");
+    assert_eq!(planned, (254, 0));
+}
