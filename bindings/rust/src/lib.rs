@@ -22,6 +22,9 @@
 //!
 //! Whatever can't be done is refused with a [`Refusal`]: a reason, which has a
 //! number, and a place. No record, run or list makes a function fail otherwise.
+//!
+//! The crate links the archive that `rt staticlib abi` writes in its repository,
+//! or the one whose whole path the environment variable DROVER_LIBRARY gives.
 
 #![deny(missing_docs)]
 #![deny(unsafe_op_in_unsafe_fn)]

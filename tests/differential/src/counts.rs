@@ -82,3 +82,34 @@ impl Counts {
         );
     }
 }
+
+#[cfg(test)]
+mod tests {
+    use super::*;
+    use reference::three_trees;
+    use reference::worked::net_a;
+
+    #[test]
+    fn a_refusal_that_was_never_met_shows() {
+        let mut counts = Counts::default();
+        counts.answer(&Ok(1));
+        counts.answer::<()>(&Err(Refusal::new(9, 1)));
+        counts.answer::<()>(&Err(Refusal::new(12, 5)));
+        assert_eq!(counts.never_met(&[9, 12]), None);
+        assert_eq!(counts.never_met(&[9, 10, 12]), Some(10));
+    }
+
+    #[test]
+    fn trees_that_break_a_bound_are_a_difference() {
+        let net = net_a((1, 1));
+        let right = three_trees(&net).expect("sound and joined");
+        let mut counts = Counts::default();
+        assert!(counts.trees(&net, &right).is_ok());
+        // The path of post 3 in the lightest tree is above its limit.
+        let slipped = Trees {
+            between: right.lightest.clone(),
+            ..right
+        };
+        assert!(counts.trees(&net, &slipped).is_err());
+    }
+}

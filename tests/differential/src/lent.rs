@@ -64,3 +64,20 @@ impl<T: Entry> Lent<T> {
         &mut self.all[GUARD..end]
     }
 }
+
+#[cfg(test)]
+mod tests {
+    use super::*;
+
+    #[test]
+    fn a_change_before_in_or_after_what_is_lent_shows() {
+        let lent = Lent::holding(&mut Random::new(1), &[1_u16, 2, 3]);
+        for at in 0..lent.all.len() {
+            let mut changed = lent.clone();
+            changed.all[at] ^= 1;
+            assert!(changed != lent, "{at}");
+        }
+        assert_eq!(lent.clone().part(), [1, 2, 3]);
+        assert_eq!(lent.all.len(), 3 + 2 * GUARD);
+    }
+}

@@ -18,6 +18,8 @@
 //! takes the clock's place, so that a run can be repeated. The exit status is 0
 //! if all was equal, 1 at a difference and 2 if nothing could be compared.
 
+#![forbid(unsafe_code)]
+
 mod cases;
 mod counts;
 mod functions;

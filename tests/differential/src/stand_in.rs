@@ -18,8 +18,6 @@ enum Fault {
     Accepting,
     /// Planning writes an entry beyond the post count.
     Beyond,
-    /// Planning writes beyond the end of a list.
-    OutOfBounds,
     /// Planning writes before it refuses.
     Touched,
     /// Planning refuses with 9 before 8.
@@ -44,10 +42,9 @@ enum Fault {
     Silent,
 }
 
-const FAULTS: [Fault; 14] = [
+const FAULTS: [Fault; 13] = [
     Fault::Accepting,
     Fault::Beyond,
-    Fault::OutOfBounds,
     Fault::Touched,
     Fault::LateLists,
     Fault::WholeSummary,
@@ -81,12 +78,6 @@ impl StandIn {
         self.fault == Some(fault)
     }
 
-    /// Writes where nothing is lent, but within the guards.
-    fn write_out_of_bounds(list: &mut [u16]) {
-        // SAFETY: the comparison lends the inner part of a longer list.
-        unsafe { *list.as_mut_ptr().add(list.len()) ^= 1 }
-    }
-
     fn build(&self, net: &Net, lists: [&mut [u16]; 3], out: &mut [u32]) -> Result<(), Refusal> {
         let [lightest, shortest, between] = lists;
         if self.does(Fault::LateLists) {
@@ -111,9 +102,6 @@ impl StandIn {
             if let Some(entry) = between.get_mut(net.posts as usize) {
                 *entry ^= 1;
             }
-        }
-        if self.does(Fault::OutOfBounds) {
-            StandIn::write_out_of_bounds(shortest);
         }
         Ok(())
     }

@@ -112,7 +112,6 @@ fn every_slip_of_the_functions_is_caught() {
         ("TriedAtEquality", "drover_plan"),
         ("Accepting", "drover_check"),
         ("Beyond", "drover_plan"),
-        ("OutOfBounds", "drover_plan"),
         ("Touched", "drover_plan"),
         ("LateLists", "drover_plan"),
         ("WholeSummary", "drover_plan"),
