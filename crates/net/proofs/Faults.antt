@@ -115,6 +115,18 @@ module _ (posts : ℕ) (s : Segment) (i : ℕ) where
       go : SegmentRule posts s i none → SegmentSound posts s
       go (R.SegmentRule.nothing z) = z
 
+-- THEIR NUMBERS are at most 7
+pub head-low : {h : Head} {m : ℕ} {r : Refusal} → HeadRule h m (some r) → r .number ≤ 7
+head-low (one p) = omega arith
+head-low (two z p) = omega arith
+head-low (three z k p) = omega arith
+head-low (four z p) = omega arith
+
+pub segment-low : {posts : ℕ} {s : Segment} {i : ℕ} {r : Refusal} → SegmentRule posts s i (some r) → r .number ≤ 7
+segment-low (five p) = omega arith
+segment-low (six e p) = omega arith
+segment-low (seven e a p) = omega arith
+
 -- a segment that isn't there has no lines
 module _ {ls : List Line} where
   present : (b : Bool) {r : Option Refusal} → b ≡ true → FirstOf ls r → FirstOf (presentLines b ls) r
@@ -213,18 +225,7 @@ module _ (ok : ℕ → Bool) (m : ℕ) (n : Net) where
       let e : none ≡ some r = sym (net-sound .1 z) ∙ net-faulty .1 f in
       let y : _≡_ {A = ℕ} 0 1 = cc in omega arith
 
-  -- and their numbers are 1 to 7
+  -- and their numbers are at most 7
   pub faulty-low : {r : Refusal} → Faulty ok m n r → r .number ≤ 7
   faulty-low (R.Faulty.one-to-four h) = head-low h
-    where
-      head-low : {r : Refusal} → HeadRule (n .head) m (some r) → r .number ≤ 7
-      head-low (one p) = omega arith
-      head-low (two z p) = omega arith
-      head-low (three z k p) = omega arith
-      head-low (four z p) = omega arith
-  faulty-low (R.Faulty.five-to-seven {i} z k o h) = segment-low h
-    where
-      segment-low : {r : Refusal} → SegmentRule (n .head .posts) (segmentAt (n .segments) i) i (some r) → r .number ≤ 7
-      segment-low (five p) = omega arith
-      segment-low (six e p) = omega arith
-      segment-low (seven e a p) = omega arith
+  faulty-low (R.Faulty.five-to-seven z k o h) = segment-low h
