@@ -18,7 +18,7 @@ use Rattle.abi.specs.Numbers.{planNumber, writeNumber, marginNumber, tre
 unfoldable pub front : {X : Type 0} → List X → List X → List X
 front v l = take (length l) v ++ drop (length v) l
 
--- PLAN: "posts, segments, source, ratio", "length and radius of each tree and the count of laid paths"
+-- PLAN: "posts, segments, source, ratio", then "length and radius of each tree and the count of laid paths"; none after a refusal
 abbrev pub twelve : PlanAnswer → List ℕ
 twelve (Planned h m l s b k) =
     h .posts ∷ m ∷ h .source ∷ h .p ∷ h .q ∷ l .length ∷ l .radius ∷ s .length ∷ s .radius ∷ b .length ∷ b .radius ∷ k ∷ []
@@ -36,16 +36,17 @@ pub record PlanLeaves (bytes l s w d : List ℕ) (r : ℕ) (l′ s′ w′ d′ 
   pub between : w′ ≡ treeList (recordRead bytes) (lentOf l s w) Between w
   pub summary : d′ ≡ summaryAfter (planOf (recordRead bytes) (lentOf l s w)) d
 
--- REWRITE
+-- REWRITE: what writing a record again leaves, where the room held `room`: the number r, and what the room holds then
 pub record RewriteLeaves (bytes room : List ℕ) (r : ℕ) (room′ : List ℕ) : Type 0 where
   pub number : r ≡ writeNumber (rewriteOf (recordRead bytes) (length room))
   pub room-after : room′ ≡ roomOf (recordRead bytes) room
 
--- MARGIN: the margin at the front of a lent list
+-- MARGIN: the margin, for the front of a lent list; none after a refusal
 abbrev pub marginsOf : MarginAnswer → List ℤ
 marginsOf (Margin z) = z ∷ []
 marginsOf (Unmeasured r) = []
 
+-- what the margin leaves, where the list held d: the number r, and what the list holds then
 pub record MarginLeaves (bytes : List ℕ) (tree post : ℕ) (d : List ℤ) (r : ℕ) (d′ : List ℤ) : Type 0 where
   pub number : r ≡ marginNumber (marginRead bytes (treeNamed tree) post)
   pub list : d′ ≡ front (marginsOf (marginRead bytes (treeNamed tree) post)) d

@@ -115,17 +115,17 @@ module _ (posts : ℕ) (s : Segment) (i : ℕ) where
       go : SegmentRule posts s i none → SegmentSound posts s
       go (R.SegmentRule.nothing z) = z
 
--- THEIR NUMBERS are at most 7
-pub head-low : {h : Head} {m : ℕ} {r : Refusal} → HeadRule h m (some r) → r .number ≤ 7
-head-low (one p) = omega arith
-head-low (two z p) = omega arith
-head-low (three z k p) = omega arith
-head-low (four z p) = omega arith
+-- THEIR NUMBERS are 1 to 7
+pub head-range : {h : Head} {m : ℕ} {r : Refusal} → HeadRule h m (some r) → (1 ≤ r .number) × (r .number ≤ 7)
+head-range (one p) = omega arith
+head-range (two z p) = omega arith
+head-range (three z k p) = omega arith
+head-range (four z p) = omega arith
 
-pub segment-low : {posts : ℕ} {s : Segment} {i : ℕ} {r : Refusal} → SegmentRule posts s i (some r) → r .number ≤ 7
-segment-low (five p) = omega arith
-segment-low (six e p) = omega arith
-segment-low (seven e a p) = omega arith
+pub segment-range : {posts : ℕ} {s : Segment} {i : ℕ} {r : Refusal} → SegmentRule posts s i (some r) → (1 ≤ r .number) × (r .number ≤ 7)
+segment-range (five p) = omega arith
+segment-range (six e p) = omega arith
+segment-range (seven e a p) = omega arith
 
 -- a segment that isn't there has no lines
 module _ {ls : List Line} where
@@ -225,7 +225,7 @@ module _ (ok : ℕ → Bool) (m : ℕ) (n : Net) where
       let e : none ≡ some r = sym (net-sound .1 z) ∙ net-faulty .1 f in
       let y : _≡_ {A = ℕ} 0 1 = cc in omega arith
 
-  -- and their numbers are at most 7
-  pub faulty-low : {r : Refusal} → Faulty ok m n r → r .number ≤ 7
-  faulty-low (R.Faulty.one-to-four h) = head-low h
-  faulty-low (R.Faulty.five-to-seven z k o h) = segment-low h
+  -- and their numbers are 1 to 7
+  pub faulty-range : {r : Refusal} → Faulty ok m n r → (1 ≤ r .number) × (r .number ≤ 7)
+  faulty-range (R.Faulty.one-to-four h) = head-range h
+  faulty-range (R.Faulty.five-to-seven z k o h) = segment-range h

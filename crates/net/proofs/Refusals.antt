@@ -17,7 +17,7 @@ use Rattle.net.specs.Building.{joinedToSource, buildRefusal, marginRefus
 use Rattle.net.proofs.Words.{not-true, not-false}
 use Rattle.net.proofs.Least.{Inside, joined-chain, not-joined}
 use Rattle.net.proofs.Tables.{FirstOf, end, here, below, first-of, first-only, InEither, in-first, in-second, in-either, some-append, none-append, LowestOf, nowhere, lowest-at, lowest-of, none-each, some-each, Tells, pass, fail, at-least, above, one-of-three}
-use Rattle.net.proofs.Faults.{faulty-first, sound-first, net-faulty, net-sound, sound-not-faulty, faulty-low}
+use Rattle.net.proofs.Faults.{faulty-first, sound-first, net-faulty, net-sound, sound-not-faulty, faulty-range}
 use Rattle.net.specs.declared.Refusal.{Refusal}
 
 -- 8, 9 AND 19
@@ -141,7 +141,7 @@ module _ (ok : ℕ → Bool) (m : ℕ) (n : Net) (lent : Lent) where
   nine-exactly v = (λ e. by-rule (rw e at build-answers), λ y. sym (build-only (R.BuildRule.nine (y .0) (y .1) (y .2))))
     where
       by-rule : BuildRule ok m n lent (some (refusal 9 v)) → NetSound ok m n × LongEnough n lent × LowestApart ok n v
-      by-rule (R.BuildRule.one-to-seven f) = let l = faulty-low ok m n f in absurd (omega arith)
+      by-rule (R.BuildRule.one-to-seven f) = let l = faulty-range ok m n f in absurd (omega arith)
       by-rule (R.BuildRule.nine z y x) = (z, y, x)
 
   -- once nothing before it holds, 9 is given exactly when some post has no route to the source

@@ -67,6 +67,7 @@ abbrev pub roomOf : Got Net → List ℕ → List ℕ
 roomOf (got n next) room = roomAfter n (length (n .segments)) room
 roomOf (unread r) room = room
 
+-- what writing a record again leaves, where the room held `room`: its answer r, and what the room holds then
 pub record Rewrites (bytes room : List ℕ) (r : WriteAnswer) (room′ : List ℕ) : Type 0 where
   pub answers : r ≡ rewriteOf (recordRead bytes) (length room)
   pub leaves : room′ ≡ roomOf (recordRead bytes) room

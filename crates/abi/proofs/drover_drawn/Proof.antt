@@ -2,7 +2,7 @@
 use mathlib.Core.Path.{sym, ap, _∙_}
 use Rattle.drawn.specs.Drawn.{drawnOf}
 use Rattle.abi.specs.Numbers.{drawnNumber}
-use Rattle.abi.proofs.Table.{drawn-few}
+use Rattle.abi.proofs.Table.{drawn-listed}
 use Rattle.abi.proofs.Answered.{told}
 use borrow.Author.Needs.{needs}
 use Rattle.abi.proofs.drover_drawn.Statement.{statement}
@@ -24,7 +24,7 @@ enum-known-answer-2 : tie.Need-enum-known-answer-2
 enum-known-answer-2 c = search needs
 
 mark-requires : tie.Need-mark-requires
-mark-requires c κs = drawn-few _ (sym (c .before .before .before .drawn .ensures) ∙ c .before .answer2 .given .1)
+mark-requires c κs = drawn-listed _ (sym (c .before .before .before .drawn .ensures) ∙ c .before .answer2 .given .1) .1
 
 returns : tie.Need-returns
 returns c = c .wide .ensures ∙ told drawnNumber (c .before .before .before .before .drawn .ensures ∙ ap drawnOf (c .before .before .before .before .before .run-named .ensures)) (c .before .before .answer .given .1)

@@ -1,7 +1,7 @@
 -- `drover_rewrite` meets its contract: the length, or the refusal marked; the room is as `plans::rewrite` leaves it. Assumes nothing.
 use mathlib.Core.Path.{sym, _∙_}
 use native.Mathlib.Omega.{arith}
-use Rattle.abi.proofs.Table.{rewrite-few}
+use Rattle.abi.proofs.Table.{rewrite-listed}
 use Rattle.abi.proofs.Answered.{rewritten, not-rewritten}
 use borrow.Author.Needs.{needs}
 use Rattle.abi.proofs.drover_rewrite.Statement.{statement}
@@ -20,7 +20,7 @@ enum-known-answer-2 : tie.Need-enum-known-answer-2
 enum-known-answer-2 c = search needs
 
 mark-requires : tie.Need-mark-requires
-mark-requires c κs = rewrite-few _ _ (λ i. omega (arith, c .before .before .before .before .before .before .before .before .shared-slice-known .given i)) (sym (c .before .before .before .before .before .rewrite .ensures .answers) ∙ c .before .answer2 .given .1)
+mark-requires c κs = rewrite-listed _ (λ i. omega (arith, c .before .before .before .before .before .before .before .before .shared-slice-known .given i)) _ (sym (c .before .before .before .before .before .rewrite .ensures .answers) ∙ c .before .answer2 .given .1) .1
 
 same-length : tie.Need-same-length
 same-length c = search needs
