@@ -1,34 +1,31 @@
 -- Demand 1 of every entry, from its contract.
-use mathlib.Core.Path.{_≡_, refl, sym, ap, _∙_}
+use mathlib.Core.Path.{_≡_, sym, ap, _∙_}
 use mathlib.Core.List.{List}
 use mathlib.Core.Option.{Option, none, some}
 use Prim.Native.Nat.{ℕ}
 use native.Mathlib.Omega.{arith}
 use lib.ListN.{length}
 use Rattle.net.specs.Net.{Net, every}
-use Rattle.net.specs.Building.{buildRefusal, buildAnswer, buildOf, listAfter, afterBuild, marginRefusal, marginAnswer, marginOf}
+use Rattle.net.specs.Building.{buildRefusal, listAfter, afterBuild, marginRefusal, marginAnswer, marginOf}
+use Rattle.net.specs.Building as B
 use Rattle.net.specs.declared.Segment.{Segment}
 use Rattle.net.specs.declared.Refusal.{Refusal}
 use Rattle.net.specs.declared.Tree.{Tree}
 use Rattle.net.proofs.Refusals.{build-answers, build-only, nine-exactly, not-joined-exactly, margin-answers, margin-only}
 use Rattle.lent.specs.Lists.{netOn}
-use Rattle.looms.specs.Answers.{answerOf, lentOf, Leaves, marginAnswerOf}
-use Rattle.looms.specs.declared.Answer.{Answer}
-use Rattle.looms.specs.declared.Answer.the-variants.{Refused as NotBuilt}
+use Rattle.looms.specs.Answers.{answerOf, saysOf, lentOf, marginAnswerOf, marginSaysOf}
 use Rattle.looms.specs.declared.MarginAnswer.{MarginAnswer}
 use Rattle.looms.specs.declared.MarginAnswer.the-variants.{Refused as Unmeasured}
 use Rattle.looms.proofs.Meaning.{refused-exactly}
+use Rattle.looms.proofs.Unique.{answer-says, margin-answer-says}
 use Rattle.records.specs.Numbers.{Got, got, refused}
 use Rattle.records.specs.Reading.{netRead}
 use Rattle.records.specs.Writing.{netWritten, writeRefusal, afterWriting, roomAfter}
-use Rattle.records.specs.Answers.{writeAnswerBy, writeAnswerOf, Writes}
-use Rattle.records.specs.declared.reading.ReadAnswer.{ReadAnswer}
-use Rattle.records.specs.declared.reading.ReadAnswer.the-variants.{Refused as NotRead}
+use Rattle.records.specs.Answers.{refusal-of, saysBy, writeAnswerBy, writeAnswerOf, saysWritten, Writes}
 use Rattle.records.specs.declared.writing.WriteAnswer.{WriteAnswer}
-use Rattle.records.specs.declared.writing.WriteAnswer.the-variants.{Refused as NotWritten}
 use Rattle.records.proofs.Ruled.{read-answers, read-only}
 use Rattle.records.proofs.RuledWriting.{write-answers, write-only}
-use Rattle.droverboot.specs.Reading.{readAnswer, listRead, Reads}
+use Rattle.droverboot.specs.Reading.{readAnswer, listRead}
 use Rattle.drawn.specs.declared.Run.{Run}
 use Rattle.drawn.proofs.Rules.{outcome-answers, outcome-only}
 use Rattle.promises.specs.Demand1.{BuildRefuses, MarginRefuses, ReadRefuses, WriteRefuses, DrawnRefuses, Demand1}
@@ -44,12 +41,12 @@ module _ (n : Net) (m : ℕ) (l s w : List ℕ) where
         by-the-rules = build-answers every m n (lentOf l s w);
         no-other = λ r. build-only every m n (lentOf l s w);
         refuses = λ k r e. (
-          refused-exactly n m (lentOf l s w) (k .answer) r .1 e,
+          ap saysOf (refused-exactly n m (lentOf l s w) (k .answer) r .1 e),
           kept r e _ _ _ (k .lightest),
           kept r e _ _ _ (k .shortest),
           kept r e _ _ _ (k .between),
         );
-        only-then = λ k r e. refused-exactly n m (lentOf l s w) (k .answer) r .0 e;
+        only-then = λ {a} k r e. refused-exactly n m (lentOf l s w) (k .answer) r .0 (sym (answer-says a) ∙ ap answerOf e);
         nine = nine-exactly every m n (lentOf l s w);
         not-joined = not-joined-exactly every m n (lentOf l s w);
       }
@@ -60,13 +57,15 @@ module _ (n : Net) (m : ℕ) (t : Tree) (post : ℕ) where
   margin-held none e = absurd (let k : _≡_ {A = ℕ} 0 1 = cc in omega arith)
   margin-held (some s) e = cc
 
-  refused-margin : {a : MarginAnswer} → a ≡ marginAnswerOf (marginOf every n m t post) → (r : Refusal) → marginRefusal every n m post ≡ some r → a ≡ Unmeasured r
+  refused-margin : {a : MarginAnswer} → a ≡ marginAnswerOf (marginOf every n m t post) → (r : Refusal) → marginRefusal every n m post ≡ some r
+      → marginSaysOf a ≡ B.MarginAnswer.refused r
   unfolding marginOf marginAnswer
-  refused-margin k r e = k ∙ ap (λ x. marginAnswerOf (marginAnswer every n x t post)) e
+  refused-margin k r e = ap marginSaysOf (k ∙ ap (λ x. marginAnswerOf (marginAnswer every n x t post)) e)
 
-  margin-refused : {a : MarginAnswer} → a ≡ marginAnswerOf (marginOf every n m t post) → (r : Refusal) → a ≡ Unmeasured r → marginRefusal every n m post ≡ some r
+  margin-refused : {a : MarginAnswer} → a ≡ marginAnswerOf (marginOf every n m t post) → (r : Refusal) → marginSaysOf a ≡ B.MarginAnswer.refused r
+      → marginRefusal every n m post ≡ some r
   unfolding marginOf
-  margin-refused k r e = margin-held (marginRefusal every n m post) (sym k ∙ e)
+  margin-refused {a} k r e = margin-held (marginRefusal every n m post) (sym k ∙ sym (margin-answer-says a) ∙ ap marginAnswerOf e)
 
   pub margin-refuses : MarginRefuses n m t post
   margin-refuses =
@@ -78,31 +77,31 @@ module _ (n : Net) (m : ℕ) (t : Tree) (post : ℕ) where
       }
 
 module _ (bytes : List ℕ) (l : List Segment) where
-  read-held : {r : Refusal} (g : Got Net) → readAnswer g ≡ NotRead r → g ≡ refused r
-  read-held (got n next) e = absurd (let k : _≡_ {A = ℕ} 0 1 = cc in omega arith)
-  read-held (refused s) e = cc
+  read-held : {r : Refusal} (g : Got Net) (ss : List Segment) → saysBy (readAnswer g) ss ≡ refusal-of r → g ≡ refused r
+  read-held (got n next) ss e = absurd (let k : _≡_ {A = ℕ} 0 1 = cc in omega arith)
+  read-held (refused s) ss e = cc
 
   pub read-refuses : ReadRefuses bytes l
   read-refuses =
       record {
         by-the-rules = λ all. read-answers bytes all (length l);
         no-other = λ g. read-only bytes;
-        refuses = λ k r e. (k .0 ∙ ap readAnswer e, k .1 ∙ ap (λ g. listRead g l) e);
-        only-then = λ k r e. read-held (netRead bytes (length l) 0) (sym (k .0) ∙ e);
+        refuses = λ {a} {l′} k r e. (ap (λ b. saysBy b l′) (k .0 ∙ ap readAnswer e), k .1 ∙ ap (λ g. listRead g l) e);
+        only-then = λ {a} {l′} k r e. read-held (netRead bytes (length l) 0) l′ (ap (λ b. saysBy b l′) (sym (k .0)) ∙ e);
       }
 
 module _ (n : Net) (m : ℕ) (room : List ℕ) where
-  write-held : {r : Refusal} (o : Option Refusal) → writeAnswerBy o (length (netWritten n)) ≡ NotWritten r → o ≡ some r
+  write-held : {r : Refusal} (o : Option Refusal) → saysWritten (writeAnswerBy o (length (netWritten n))) ≡ refusal-of r → o ≡ some r
   write-held none e = absurd (let k : _≡_ {A = ℕ} 0 1 = cc in omega arith)
   write-held (some s) e = cc
 
-  refused-write : {a : WriteAnswer} {x : List ℕ} → Writes n m room a x → (r : Refusal) → writeRefusal n m (length room) ≡ some r → (a ≡ NotWritten r) × (x ≡ room)
+  refused-write : {a : WriteAnswer} {x : List ℕ} → Writes n m room a x → (r : Refusal) → writeRefusal n m (length room) ≡ some r → (saysWritten a ≡ refusal-of r) × (x ≡ room)
   unfolding writeAnswerOf roomAfter
-  refused-write k r e = (k .answers ∙ ap (λ o. writeAnswerBy o (length (netWritten n))) e, k .leaves ∙ ap (λ o. afterWriting o n room) e)
+  refused-write k r e = (ap saysWritten (k .answers ∙ ap (λ o. writeAnswerBy o (length (netWritten n))) e), k .leaves ∙ ap (λ o. afterWriting o n room) e)
 
-  write-refused : {a : WriteAnswer} {x : List ℕ} → Writes n m room a x → (r : Refusal) → a ≡ NotWritten r → writeRefusal n m (length room) ≡ some r
+  write-refused : {a : WriteAnswer} {x : List ℕ} → Writes n m room a x → (r : Refusal) → saysWritten a ≡ refusal-of r → writeRefusal n m (length room) ≡ some r
   unfolding writeAnswerOf
-  write-refused k r e = write-held (writeRefusal n m (length room)) (sym (k .answers) ∙ e)
+  write-refused k r e = write-held (writeRefusal n m (length room)) (ap saysWritten (sym (k .answers)) ∙ e)
 
   pub write-refuses : WriteRefuses n m room
   write-refuses =

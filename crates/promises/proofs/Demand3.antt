@@ -6,14 +6,13 @@ use native.Mathlib.Nat.{le-refl}
 use lib.ListN.{length, take}
 use Rattle.net.specs.Net.{Net, every}
 use Rattle.net.specs.Rules.{NetSound, AllJoined}
-use Rattle.net.specs.Building.{betweenOf, laidOf, walkOf, walkWith}
+use Rattle.net.specs.Building.{Measured, built, betweenOf, laidOf, walkOf, walkWith}
 use Rattle.net.proofs.Cost.{AllOf, all-of}
 use Rattle.net.proofs.Sound.{between-tree, laid-length, laid-sum}
 use Rattle.net.proofs.Demand.{path-limit, no-slack, length-limit, length-limit-tree}
 use Rattle.lent.specs.Lists.{netOn}
-use Rattle.looms.specs.Answers.{Leaves}
-use Rattle.looms.specs.declared.Measured.{Measured}
-use Rattle.looms.specs.declared.Answer.the-variants.{Built}
+use Rattle.looms.specs.Answers.{Leaves, saysOf}
+use Rattle.looms.specs.declared.Answer.{Answer}
 use Rattle.promises.specs.Demand3.{Bounds, LengthWithin, Demand3}
 use Rattle.promises.proofs.Taken.{taken-sound, taken-joined}
 use Rattle.promises.proofs.Demand2.{built-as-stated}
@@ -37,11 +36,11 @@ module _ (n : Net) (m : ℕ) (fits : length (n .segments) ≤ m) (sound : NetSou
       }
 
 -- of what building leaves in the third list
-module _ (n : Net) (m : ℕ) (fits : length (n .segments) ≤ m) (l s w : List ℕ) {x y z : Measured} {k : ℕ} {l′ s′ w′ : List ℕ} (leaves : Leaves n m l s w (Built x y z k) l′ s′ w′) where
+module _ (n : Net) (m : ℕ) (fits : length (n .segments) ≤ m) (l s w : List ℕ) {a : Answer} {l′ s′ w′ : List ℕ} {x y z : Measured} {k : ℕ} (leaves : Leaves n m l s w a l′ s′ w′) (says : saysOf a ≡ built x y z k) where
   pub bounds-left : Bounds n (take (n .head .posts) w′) × LengthWithin n (z .length)
   bounds-left =
-      let b = built-as-stated n m fits l s w leaves in
-      let c : Bounds n (take (n .head .posts) w′) = rw (b .holds-between .tree) (bounds n m fits (taken-sound n m l s w leaves) (taken-joined n m l s w leaves)) in
+      let b = built-as-stated n m fits l s w leaves says in
+      let c : Bounds n (take (n .head .posts) w′) = rw (b .holds-between .tree) (bounds n m fits (taken-sound n m l s w leaves says) (taken-joined n m l s w leaves says)) in
       (c, record { any-spanning-tree = λ U span. rw (b .measures-between .length-is) (c .length-spanning U span) })
 
 pub demand-3 : Demand3

@@ -1,5 +1,4 @@
 -- Two outcomes of an entry are equal: the laws of the crates, in one place.
-use mathlib.Core.List.{List}
 use Prim.Native.Nat.{ℕ}
 use lib.ListN.{length}
 use Rattle.net.specs.Net.{Net}

@@ -2,7 +2,8 @@
 -- changes nothing in lent memory. An otherwise sound net is refused as not joined exactly when some post has no route to the source."
 -- One record for each entry, for whatever is lent to it. `by-the-rules` and `no-other`: document 01's rules, one for each number, give one answer for every
 -- input. `refuses`: where they refuse, every outcome that the entry's contract allows is that refusal, and what was lent is as it was. `only-then`: an outcome is
--- a refusal only where they refuse. The rules stand in net/specs/Rules, records/specs/Rules and drawn/specs/Rules.
+-- a refusal only where they refuse. The rules stand in net/specs/Rules, records/specs/Rules and drawn/specs/Rules. What an answer says, its number and values,
+-- is `saysOf`, `marginSaysOf`, `saysBy` and `saysWritten`.
 use mathlib.Core.Path.{_≡_}
 use mathlib.Core.Logic.{_↔_}
 use mathlib.Core.List.{List}
@@ -12,29 +13,26 @@ use lib.ListN.{length}
 use Rattle.net.specs.Net.{Net, every}
 use Rattle.net.specs.Refusals.{refusal}
 use Rattle.net.specs.Rules.{NetSound, LongEnough, Joined, LowestApart, BuildRule, MarginRule}
-use Rattle.net.specs.Building.{buildRefusal, marginRefusal, marginOf}
+use Rattle.net.specs.Building.{refused, buildRefusal, marginRefusal, marginOf}
+use Rattle.net.specs.Building as B
 use Rattle.net.specs.declared.Head.{Head}
 use Rattle.net.specs.declared.Segment.{Segment}
 use Rattle.net.specs.declared.Refusal.{Refusal}
 use Rattle.net.specs.declared.Tree.{Tree}
 use Rattle.lent.specs.Lists.{netOn}
-use Rattle.looms.specs.Answers.{lentOf, Leaves, marginAnswerOf}
+use Rattle.looms.specs.Answers.{lentOf, Leaves, saysOf, marginAnswerOf, marginSaysOf}
 use Rattle.looms.specs.declared.Answer.{Answer}
-use Rattle.looms.specs.declared.Answer.the-variants.{Refused as NotBuilt}
 use Rattle.looms.specs.declared.MarginAnswer.{MarginAnswer}
-use Rattle.looms.specs.declared.MarginAnswer.the-variants.{Refused as Unmeasured}
-use Rattle.records.specs.Numbers.{Bytes, Got, refused}
+use Rattle.records.specs.Numbers.{Bytes, Got, refused as unread}
 use Rattle.records.specs.Reading.{netRead}
 use Rattle.records.specs.Writing.{writeRefusal}
 use Rattle.records.specs.Rules.{ReadRule, WriteRule}
-use Rattle.records.specs.Answers.{Writes}
+use Rattle.records.specs.Answers.{refusal-of, saysBy, saysWritten, Writes}
 use Rattle.records.specs.declared.reading.ReadAnswer.{ReadAnswer}
-use Rattle.records.specs.declared.reading.ReadAnswer.the-variants.{Refused as NotRead}
 use Rattle.records.specs.declared.writing.WriteAnswer.{WriteAnswer}
-use Rattle.records.specs.declared.writing.WriteAnswer.the-variants.{Refused as NotWritten}
 use Rattle.droverboot.specs.Reading.{Reads}
 use Rattle.drawn.specs.Drawn.{drawnOf}
-use Rattle.drawn.specs.Says.{Says, saysOf}
+use Rattle.drawn.specs.Says.{Says, saysOf as drawnSays}
 use Rattle.drawn.specs.Rules.{Answers}
 use Rattle.drawn.specs.declared.Run.{Run}
 use Rattle.drawn.specs.declared.Answer.{Answer as Drawn}
@@ -44,8 +42,8 @@ pub record BuildRefuses (n : Net) (m : ℕ) (l s w : List ℕ) : Type 0 where
   pub by-the-rules : BuildRule every m n (lentOf l s w) (buildRefusal every n m (lentOf l s w))
   pub no-other : (r : Option Refusal) → BuildRule every m n (lentOf l s w) r → r ≡ buildRefusal every n m (lentOf l s w)
   pub refuses : {a : Answer} {l′ s′ w′ : List ℕ} → Leaves n m l s w a l′ s′ w′
-      → (r : Refusal) → buildRefusal every n m (lentOf l s w) ≡ some r → (a ≡ NotBuilt r) × (l′ ≡ l) × (s′ ≡ s) × (w′ ≡ w)
-  pub only-then : {a : Answer} {l′ s′ w′ : List ℕ} → Leaves n m l s w a l′ s′ w′ → (r : Refusal) → a ≡ NotBuilt r → buildRefusal every n m (lentOf l s w) ≡ some r
+      → (r : Refusal) → buildRefusal every n m (lentOf l s w) ≡ some r → (saysOf a ≡ refused r) × (l′ ≡ l) × (s′ ≡ s) × (w′ ≡ w)
+  pub only-then : {a : Answer} {l′ s′ w′ : List ℕ} → Leaves n m l s w a l′ s′ w′ → (r : Refusal) → saysOf a ≡ refused r → buildRefusal every n m (lentOf l s w) ≡ some r
   -- 9 exactly when nothing before it holds, that post has no route and every lower one has
   pub nine : (v : ℕ) → (buildRefusal every n m (lentOf l s w) ≡ some (refusal 9 v)) ↔ (NetSound every m n × LongEnough n (lentOf l s w) × LowestApart every n v)
   -- an otherwise sound net is refused as not joined exactly when some post has no route to the source
@@ -56,27 +54,27 @@ pub record BuildRefuses (n : Net) (m : ℕ) (l s w : List ℕ) : Type 0 where
 pub record MarginRefuses (n : Net) (m : ℕ) (t : Tree) (post : ℕ) : Type 0 where
   pub by-the-rules : MarginRule every m n post (marginRefusal every n m post)
   pub no-other : (r : Option Refusal) → MarginRule every m n post r → r ≡ marginRefusal every n m post
-  pub refuses : {a : MarginAnswer} → a ≡ marginAnswerOf (marginOf every n m t post) → (r : Refusal) → marginRefusal every n m post ≡ some r → a ≡ Unmeasured r
-  pub only-then : {a : MarginAnswer} → a ≡ marginAnswerOf (marginOf every n m t post) → (r : Refusal) → a ≡ Unmeasured r → marginRefusal every n m post ≡ some r
+  pub refuses : {a : MarginAnswer} → a ≡ marginAnswerOf (marginOf every n m t post) → (r : Refusal) → marginRefusal every n m post ≡ some r → marginSaysOf a ≡ B.MarginAnswer.refused r
+  pub only-then : {a : MarginAnswer} → a ≡ marginAnswerOf (marginOf every n m t post) → (r : Refusal) → marginSaysOf a ≡ B.MarginAnswer.refused r → marginRefusal every n m post ≡ some r
 
 -- READING the bytes of a record into a list that holds l
 pub record ReadRefuses (bytes : List ℕ) (l : List Segment) : Type 0 where
   pub by-the-rules : Bytes bytes → ReadRule bytes (length l) (netRead bytes (length l) 0)
   pub no-other : (g : Got Net) → ReadRule bytes (length l) g → netRead bytes (length l) 0 ≡ g
-  pub refuses : {a : ReadAnswer} {l′ : List Segment} → Reads bytes l a l′ → (r : Refusal) → netRead bytes (length l) 0 ≡ refused r → (a ≡ NotRead r) × (l′ ≡ l)
-  pub only-then : {a : ReadAnswer} {l′ : List Segment} → Reads bytes l a l′ → (r : Refusal) → a ≡ NotRead r → netRead bytes (length l) 0 ≡ refused r
+  pub refuses : {a : ReadAnswer} {l′ : List Segment} → Reads bytes l a l′ → (r : Refusal) → netRead bytes (length l) 0 ≡ unread r → (saysBy a l′ ≡ refusal-of r) × (l′ ≡ l)
+  pub only-then : {a : ReadAnswer} {l′ : List Segment} → Reads bytes l a l′ → (r : Refusal) → saysBy a l′ ≡ refusal-of r → netRead bytes (length l) 0 ≡ unread r
 
 -- WRITING a net n that claims m segments into a room that holds those bytes
 pub record WriteRefuses (n : Net) (m : ℕ) (room : List ℕ) : Type 0 where
   pub by-the-rules : WriteRule m n (length room) (writeRefusal n m (length room))
   pub no-other : (r : Option Refusal) → WriteRule m n (length room) r → r ≡ writeRefusal n m (length room)
-  pub refuses : {a : WriteAnswer} {x : List ℕ} → Writes n m room a x → (r : Refusal) → writeRefusal n m (length room) ≡ some r → (a ≡ NotWritten r) × (x ≡ room)
-  pub only-then : {a : WriteAnswer} {x : List ℕ} → Writes n m room a x → (r : Refusal) → a ≡ NotWritten r → writeRefusal n m (length room) ≡ some r
+  pub refuses : {a : WriteAnswer} {x : List ℕ} → Writes n m room a x → (r : Refusal) → writeRefusal n m (length room) ≡ some r → (saysWritten a ≡ refusal-of r) × (x ≡ room)
+  pub only-then : {a : WriteAnswer} {x : List ℕ} → Writes n m room a x → (r : Refusal) → saysWritten a ≡ refusal-of r → writeRefusal n m (length room) ≡ some r
 
 -- A DRAWN RUN; what an answer says is a length or a refusal with number and place
 pub record DrawnRefuses (run : Run) : Type 0 where
-  pub by-the-rules : {a : Drawn} → a ≡ drawnOf run → Answers run (saysOf a)
-  pub no-other : {a : Drawn} → a ≡ drawnOf run → (s : Says) → Answers run s → saysOf a ≡ s
+  pub by-the-rules : {a : Drawn} → a ≡ drawnOf run → Answers run (drawnSays a)
+  pub no-other : {a : Drawn} → a ≡ drawnOf run → (s : Says) → Answers run s → drawnSays a ≡ s
 
 -- EVERY ENTRY, whatever is lent to it
 pub record Demand1 : Type 0 where

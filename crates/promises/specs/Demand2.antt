@@ -1,7 +1,8 @@
 -- Demand 2: "Exactly the published rules. Lightest tree, shortest tree and walk as document 01 states them, ties included. Records are read and written both
 -- ways without loss, one record for one net. A drawn length becomes the whole number of sixteenths that it is."
 -- The definitions of net/specs compute the trees; `TreesAsStated` is what they come to in document 01's own words, over chains and routes. The rest is said of the
--- outcomes that the entries' contracts allow: what building leaves in the lent lists, a margin that is given, what is read and written, a drawn run's length.
+-- outcomes that the entries' contracts allow: what building leaves in the lent lists, a margin that is given, what is read and written, a drawn run's length. What an answer
+-- says, its number and values, is `saysOf`, `marginSaysOf`, `saysBy`, `saysWritten` and, of a run, `drawnSays`.
 use mathlib.Core.Path.{_≡_}
 use mathlib.Core.Logic.{_↔_}
 use mathlib.Core.Bool.{false}
@@ -19,25 +20,23 @@ use Rattle.net.specs.declared.Tree.the-variants.{Shortest, Between}
 use Rattle.net.specs.Net.{Net, every, lengthAt}
 use Rattle.net.specs.Trees.{at, IsLeast, HangsBy, ExactlyBelonging, IsTree, entry, pathIn, whole, radius}
 use Rattle.net.specs.Walk.{atStart, walk}
-use Rattle.net.specs.Building.{lightestOf, leastLengthsOf, shortestOf, betweenOf, laidOf, givenWith, walkOf, treeOf, marginOf}
+use Rattle.net.specs.Building.{Measured, built, lightestOf, leastLengthsOf, shortestOf, betweenOf, laidOf, givenWith, walkOf, treeOf, marginOf}
+use Rattle.net.specs.Building as B
 use Rattle.lent.specs.Lists.{netOn}
-use Rattle.looms.specs.Answers.{Leaves, marginAnswerOf}
-use Rattle.looms.specs.declared.Measured.{Measured}
-use Rattle.looms.specs.declared.Answer.the-variants.{Built}
-use Rattle.looms.specs.declared.MarginAnswer.the-variants.{Margin}
+use Rattle.looms.specs.Answers.{Leaves, saysOf, marginAnswerOf, marginSaysOf}
+use Rattle.looms.specs.declared.Answer.{Answer}
+use Rattle.looms.specs.declared.MarginAnswer.{MarginAnswer}
 use Rattle.records.specs.Numbers.{Bytes}
 use Rattle.records.specs.Writing.{onto}
-use Rattle.records.specs.Answers.{Writes}
+use Rattle.records.specs.Answers.{result, saysBy, saysWritten, Writes}
 use Rattle.records.specs.declared.reading.ReadAnswer.{ReadAnswer}
-use Rattle.records.specs.declared.reading.ReadAnswer.the-variants.{Read}
 use Rattle.records.specs.declared.writing.WriteAnswer.{WriteAnswer}
-use Rattle.records.specs.declared.writing.WriteAnswer.the-variants.{Written}
 use Rattle.droverboot.specs.Reading.{Reads}
 use Rattle.drawn.specs.Drawn.{drawnOf}
+use Rattle.drawn.specs.Says.{sixteenths, saysOf as drawnSays}
 use Rattle.drawn.specs.Rules.{Long, BothLong}
 use Rattle.drawn.specs.declared.Run.the-variants.{Straight, Corner}
 use Rattle.drawn.specs.declared.Answer.{Answer as Drawn}
-use Rattle.drawn.specs.declared.Answer.the-variants.{Length}
 
 -- THE TREES of a net that building takes
 pub record TreesAsStated (n : Net) : Type 0 where
@@ -65,7 +64,7 @@ pub record Holds (n : Net) (t before now : List ℕ) : Type 0 where
   pub tree : take (n .head .posts) now ≡ t
   pub rest : drop (n .head .posts) now ≡ drop (n .head .posts) before
 
--- of a net n, of the three lists before and after, and of what Built says
+-- of a net n, of the three lists before and after, and of what the answer says
 pub record BuiltAsStated (n : Net) (l s w l′ s′ w′ : List ℕ) (lightest shortest between : Measured) (laid : ℕ) : Type 0 where
   pub as-stated : TreesAsStated n
   pub holds-lightest : Holds n (lightestOf every n) l l′
@@ -89,31 +88,31 @@ pub record MarginAsStated (n : Net) (t : Tree) (post : ℕ) (z : ℤ) : Type 0 w
 
 -- RECORDS: "read and written both ways without loss, one record for one net"
 pub record RecordsBothWays : Type 0 where
-  -- what was written reads as the same head and segments, laid into any list that is long enough
-  pub written-then-read : (h : Head) (segments : List Segment) (room : List ℕ) {size : ℕ} {x : List ℕ} → Writes (netOn h segments) (length segments) room (Written size) x
-      → (l : List Segment) {a : ReadAnswer} {l′ : List Segment} → length segments ≤ length l → Reads (take size x) l a l′
-      → (a ≡ Read h (length segments)) × (l′ ≡ segments ++ drop (length segments) l)
+  -- what was written reads as the same net, laid into any list that is long enough
+  pub written-then-read : (n : Net) (room : List ℕ) {a : WriteAnswer} {size : ℕ} {x : List ℕ} → Writes n (length (n .segments)) room a x → saysWritten a ≡ result size
+      → (l : List Segment) {b : ReadAnswer} {l′ : List Segment} → length (n .segments) ≤ length l → Reads (take size x) l b l′
+      → (saysBy b l′ ≡ result n) × (l′ ≡ n .segments ++ drop (length (n .segments)) l)
   -- what was read is written again byte for byte, into any room that is long enough
-  pub read-then-written : (bytes : List ℕ) (l : List Segment) {h : Head} {count : ℕ} {l′ : List Segment} → Bytes bytes → Reads bytes l (Read h count) l′
-      → (room : List ℕ) {a : WriteAnswer} {x : List ℕ} → length bytes ≤ length room → Writes (netOn h (take count l′)) count room a x
-      → (a ≡ Written (length bytes)) × (x ≡ onto bytes room)
+  pub read-then-written : (bytes : List ℕ) (l : List Segment) {a : ReadAnswer} {l′ : List Segment} {n : Net} → Bytes bytes → Reads bytes l a l′ → saysBy a l′ ≡ result n
+      → (room : List ℕ) {b : WriteAnswer} {x : List ℕ} → length bytes ≤ length room → Writes n (length (n .segments)) room b x
+      → (saysWritten b ≡ result (length bytes)) × (x ≡ onto bytes room)
   -- two records of one net are equal
-  pub one-record : (b c : List ℕ) (l m : List Segment) {h : Head} {count : ℕ} {l′ m′ : List Segment} → Bytes b → Bytes c
-      → Reads b l (Read h count) l′ → Reads c m (Read h count) m′ → take count l′ ≡ take count m′ → b ≡ c
+  pub one-record : (b c : List ℕ) (l m : List Segment) {a a₂ : ReadAnswer} {l′ m′ : List Segment} {n : Net} → Bytes b → Bytes c
+      → Reads b l a l′ → saysBy a l′ ≡ result n → Reads c m a₂ m′ → saysBy a₂ m′ ≡ result n → b ≡ c
   -- and two nets of one record are
-  pub one-net : (h k : Head) (ss ts : List Segment) (room room₂ : List ℕ) {size size₂ : ℕ} {x y : List ℕ} → Writes (netOn h ss) (length ss) room (Written size) x
-      → Writes (netOn k ts) (length ts) room₂ (Written size₂) y → take size x ≡ take size₂ y → netOn h ss ≡ netOn k ts
+  pub one-net : (n m : Net) (room room₂ : List ℕ) {a b : WriteAnswer} {size size₂ : ℕ} {x y : List ℕ} → Writes n (length (n .segments)) room a x → saysWritten a ≡ result size
+      → Writes m (length (m .segments)) room₂ b y → saysWritten b ≡ result size₂ → take size x ≡ take size₂ y → n ≡ m
 
 -- DRAWN RUNS: "A drawn length becomes the whole number of sixteenths that it is."
 pub record DrawnAsStated : Type 0 where
-  pub straight : (x : Float) {a : Drawn} → a ≡ drawnOf (Straight x) → (k : ℕ) → (a ≡ Length k) ↔ Long x k
-  pub corner : (x y : Float) {a : Drawn} → a ≡ drawnOf (Corner x y) → (k : ℕ) → (a ≡ Length k) ↔ BothLong x y k
+  pub straight : (x : Float) {a : Drawn} → a ≡ drawnOf (Straight x) → (k : ℕ) → (drawnSays a ≡ sixteenths k) ↔ Long x k
+  pub corner : (x y : Float) {a : Drawn} → a ≡ drawnOf (Corner x y) → (k : ℕ) → (drawnSays a ≡ sixteenths k) ↔ BothLong x y k
 
 -- EVERY ENTRY
 pub record Demand2 : Type 0 where
-  pub build : (h : Head) (segments : List Segment) (l s w : List ℕ) {x y z : Measured} {k : ℕ} {l′ s′ w′ : List ℕ}
-      → Leaves (netOn h segments) (length segments) l s w (Built x y z k) l′ s′ w′ → BuiltAsStated (netOn h segments) l s w l′ s′ w′ x y z k
-  pub margin : (h : Head) (segments : List Segment) (t : Tree) (post : ℕ) {z : ℤ}
-      → Margin z ≡ marginAnswerOf (marginOf every (netOn h segments) (length segments) t post) → MarginAsStated (netOn h segments) t post z
+  pub build : (h : Head) (segments : List Segment) (l s w : List ℕ) {a : Answer} {l′ s′ w′ : List ℕ} {x y z : Measured} {k : ℕ}
+      → Leaves (netOn h segments) (length segments) l s w a l′ s′ w′ → saysOf a ≡ built x y z k → BuiltAsStated (netOn h segments) l s w l′ s′ w′ x y z k
+  pub margin : (h : Head) (segments : List Segment) (t : Tree) (post : ℕ) {a : MarginAnswer} {z : ℤ}
+      → a ≡ marginAnswerOf (marginOf every (netOn h segments) (length segments) t post) → marginSaysOf a ≡ B.MarginAnswer.margin z → MarginAsStated (netOn h segments) t post z
   pub records : RecordsBothWays
   pub drawn : DrawnAsStated

@@ -10,11 +10,10 @@ use Rattle.net.specs.declared.Head.{Head}
 use Rattle.net.specs.declared.Segment.{Segment}
 use Rattle.net.specs.Net.{Net, every, lengthAt, Route, routeLength, weigh, setLength, JoinsAll, SpanningTree}
 use Rattle.net.specs.Trees.{at, IsLeast, IsTree, pathIn, whole}
-use Rattle.net.specs.Building.{lightestOf, leastLengthsOf, laidOf}
+use Rattle.net.specs.Building.{Measured, built, lightestOf, leastLengthsOf, laidOf}
 use Rattle.lent.specs.Lists.{netOn}
-use Rattle.looms.specs.Answers.{Leaves}
-use Rattle.looms.specs.declared.Measured.{Measured}
-use Rattle.looms.specs.declared.Answer.the-variants.{Built}
+use Rattle.looms.specs.Answers.{Leaves, saysOf}
+use Rattle.looms.specs.declared.Answer.{Answer}
 
 -- of a net that building takes, and of its third tree t
 pub record Bounds (n : Net) (t : List ℕ) : Type 0 where
@@ -42,7 +41,8 @@ pub record LengthWithin (n : Net) (z : ℕ) : Type 0 where
   pub any-spanning-tree : (U : ℕ → Bool) → SpanningTree (n .segments) every (n .head .posts) (n .head .source) U
       → n .head .p * z ≤ (n .head .p + 2 * n .head .q) * setLength (n .segments) U
 
--- WHERE BUILDING ANSWERS BUILT
+-- WHERE BUILDING SAYS BUILT
 pub record Demand3 : Type 0 where
-  pub build : (h : Head) (segments : List Segment) (l s w : List ℕ) {x y z : Measured} {k : ℕ} {l′ s′ w′ : List ℕ}
-      → Leaves (netOn h segments) (length segments) l s w (Built x y z k) l′ s′ w′ → Bounds (netOn h segments) (take (h .posts) w′) × LengthWithin (netOn h segments) (z .length)
+  pub build : (h : Head) (segments : List Segment) (l s w : List ℕ) {a : Answer} {l′ s′ w′ : List ℕ} {x y z : Measured} {k : ℕ}
+      → Leaves (netOn h segments) (length segments) l s w a l′ s′ w′ → saysOf a ≡ built x y z k
+      → Bounds (netOn h segments) (take (h .posts) w′) × LengthWithin (netOn h segments) (z .length)
