@@ -7,6 +7,8 @@ use Rattle.lent.specs.Lists.{netOn}
 use Rattle.looms.proofs.Unique.{build-one, margin-one}
 use Rattle.records.proofs.Outcomes.{number-at-unique, read-array-unique, write-array-unique}
 use Rattle.droverboot.proofs.Unique.{read-one}
+use Rattle.plans.proofs.Unique as plans
+use Rattle.abi.proofs.Unique as abi
 use Rattle.drawn.proofs.Rules.{same-outcome}
 use Rattle.promises.specs.Unique.{OneBuilding, OneMargin, OneWriting, Unique}
 
@@ -27,6 +29,15 @@ unique =
       write = λ h segments. one-writing (netOn h segments) (length segments);
       read = read-one;
       drawn = λ run. same-outcome run _ _;
+      plan = λ bytes l s w p q. (let e = plans.plan-one bytes l s w p q in (e .answers, e .lightest, e .shortest, e .between));
+      rewrite = plans.rewrite-one;
+      margin-read = plans.margin-one;
+      check-read = plans.check-one;
+      c-check = abi.check-one;
+      c-plan = λ bytes l s w d p q. (let e = abi.plan-one bytes l s w d p q in (e .numbers, e .lightest, e .shortest, e .between, e .summary));
+      c-rewrite = abi.rewrite-one;
+      c-margin = abi.margin-one;
+      c-drawn = abi.drawn-one;
       build-array = one-building;
       margin-array = one-margin;
       write-array = one-writing;

@@ -1,8 +1,10 @@
 -- "For each, prove that two outcomes allowed by it are equal": of every entry, whatever is lent to it, two answers that its contract allows are equal, and so is
--- what every lent list holds afterwards. First the entries over lent lists, then those over arrays that stand below them. A contract is cited as its function has it.
+-- what every lent list holds afterwards. First the entries over lent lists, then those on records and for C, then those over arrays that stand below them. A contract
+-- is cited as its function has it.
 use mathlib.Core.Path.{_≡_}
 use mathlib.Core.List.{List}
 use Prim.Native.Nat.{ℕ}
+use lib.IntN.{ℤ}
 use lib.ListN.{length}
 use Rattle.net.specs.Net.{Net, every, segmentsOf}
 use Rattle.net.specs.Refusals.{checkedOf, first, headLines, segmentLines, checkOf}
@@ -23,6 +25,10 @@ use Rattle.records.specs.declared.reading.ReadArray.{ReadArray}
 use Rattle.records.specs.declared.reading.ReadAnswer.{ReadAnswer}
 use Rattle.records.specs.declared.writing.WriteAnswer.{WriteAnswer}
 use Rattle.droverboot.specs.Reading.{Reads}
+use Rattle.plans.specs.Asked.{recordRead, Plans, Rewrites, marginRead, checkRead}
+use Rattle.plans.specs.declared.PlanAnswer.{PlanAnswer}
+use Rattle.abi.specs.Numbers.{checkNumber, drawnNumber, runNamed}
+use Rattle.abi.specs.Left.{PlanLeaves, RewriteLeaves, MarginLeaves}
 use Rattle.drawn.specs.Drawn.{drawnOf}
 use Rattle.drawn.specs.declared.Run.{Run}
 use Rattle.drawn.specs.declared.Answer.{Answer as Drawn}
@@ -47,6 +53,21 @@ pub record Unique : Type 0 where
   pub write : (h : Head) (segments : List Segment) → OneWriting (netOn h segments) (length segments)
   pub read : (bytes : List ℕ) (l : List Segment) {a b : ReadAnswer} {l′ l₂ : List Segment} → Reads bytes l a l′ → Reads bytes l b l₂ → (a ≡ b) × (l′ ≡ l₂)
   pub drawn : (run : Run) {a b : Drawn} → a ≡ drawnOf run → b ≡ drawnOf run → a ≡ b
+  -- on records
+  pub plan : (bytes l s w : List ℕ) {a b : PlanAnswer} {l′ l₂ s′ s₂ w′ w₂ : List ℕ} → Plans bytes l s w a l′ s′ w′ → Plans bytes l s w b l₂ s₂ w₂
+      → (a ≡ b) × (l′ ≡ l₂) × (s′ ≡ s₂) × (w′ ≡ w₂)
+  pub rewrite : (bytes room : List ℕ) {a b : WriteAnswer} {x y : List ℕ} → Rewrites bytes room a x → Rewrites bytes room b y → (a ≡ b) × (x ≡ y)
+  pub margin-read : (bytes : List ℕ) (t : Tree) (post : ℕ) {a b : MarginAnswer} → a ≡ marginRead bytes t post → b ≡ marginRead bytes t post → a ≡ b
+  pub check-read : (bytes : List ℕ) {a b : Checked} → a ≡ checkRead (recordRead bytes) → b ≡ checkRead (recordRead bytes) → a ≡ b
+  -- for C
+  pub c-check : (bytes : List ℕ) {a b : ℕ} → a ≡ checkNumber (checkRead (recordRead bytes)) → b ≡ checkNumber (checkRead (recordRead bytes)) → a ≡ b
+  pub c-plan : (bytes l s w d : List ℕ) {a b : ℕ} {l′ l₂ s′ s₂ w′ w₂ d′ d₂ : List ℕ} → PlanLeaves bytes l s w d a l′ s′ w′ d′ → PlanLeaves bytes l s w d b l₂ s₂ w₂ d₂
+      → (a ≡ b) × (l′ ≡ l₂) × (s′ ≡ s₂) × (w′ ≡ w₂) × (d′ ≡ d₂)
+  pub c-rewrite : (bytes room : List ℕ) {a b : ℕ} {x y : List ℕ} → RewriteLeaves bytes room a x → RewriteLeaves bytes room b y → (a ≡ b) × (x ≡ y)
+  pub c-margin : (bytes : List ℕ) (tree post : ℕ) (d : List ℤ) {a b : ℕ} {x y : List ℤ} → MarginLeaves bytes tree post d a x → MarginLeaves bytes tree post d b y
+      → (a ≡ b) × (x ≡ y)
+  pub c-drawn : (corner first second : ℕ) {a b : ℕ} → a ≡ drawnNumber (drawnOf (runNamed corner first second)) → b ≡ drawnNumber (drawnOf (runNamed corner first second))
+      → a ≡ b
   -- over arrays
   pub build-array : (n : Net) (m : ℕ) → OneBuilding n m
   pub margin-array : (n : Net) (m : ℕ) → OneMargin n m
