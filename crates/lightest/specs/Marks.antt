@@ -49,7 +49,8 @@ pub record Markable (a b : List ℕ) (present : List Bool) (numbers labels : Lis
   pub are-segments : (k : ℕ) → k < length numbers → getD numbers k 0 < length a
 
 -- lists lent to work in, and the marks: an entry for each of m segments
-pub record Lent (m : ℕ) (numbers scratch : List ℕ) (marks : List Bool) : Type 0 where
+pub record Lent (m : ℕ) (numbers keys twin : List ℕ) (marks : List Bool) : Type 0 where
   pub one-number : length numbers ≡ m
-  pub one-scratch : length scratch ≡ m
+  pub one-key : length keys ≡ m
+  pub one-twin : length twin ≡ m
   pub one-mark : length marks ≡ m
