@@ -2,6 +2,7 @@
 pub mod Lists
 pub mod Notes
 pub mod Settling
+pub mod Ladder
 pub mod Rows
 pub mod Sides
 pub mod Running

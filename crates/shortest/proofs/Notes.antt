@@ -1,6 +1,5 @@
 -- What each step of the search does to the notes: laws of the records of specs/Notes. Rests on `Lists`.
-use mathlib.Core.Path.{_≡_, refl, sym, ap, _∙_, subst}
-use mathlib.Core.Bool.{Bool, false}
+use mathlib.Core.Path.{_≡_, refl, sym, _∙_, subst}
 use mathlib.Core.List.{List}
 use mathlib.Core.Logic.{_⊎_, inl, inr, ⊎-elim}
 use Prim.Native.Nat.{ℕ, zero, _+_, _<_, _≤_}
@@ -9,7 +8,7 @@ use native.Mathlib.Omega.{arith}
 use lib.ListN.{length, set, length-set}
 use Rattle.net.specs.Trees.{noneYet}
 use Rattle.shortest.specs.Lists.{note}
-use Rattle.shortest.specs.Notes.{Joins, Filled, Cleared, Lowered, Offered, Nearest}
+use Rattle.shortest.specs.Notes.{Joins, Filled, Cleared, Lowered, Offered}
 use Rattle.shortest.proofs.Lists.{last?, stored}
 
 -- FILLING. the first v entries are e, and the others as they were
@@ -80,18 +79,3 @@ offered {u} {x} {y} {c} {d} {d′} {d″} p q =
     most : (v : ℕ) → Joins x y u v → d″ v ≤ c
     most v (Joins.forth e f) = subst (λ k. d″ k ≤ c) f (le-trans (q .falls y) (p .most e))
     most v (Joins.back e f) = subst (λ k. d″ k ≤ c) f (q .most e)
-
--- THE NEAREST UNSETTLED POST
-module _ {posts : ℕ} {d : ℕ → ℕ} {S : ℕ → Bool} where
-  pub nearest-none : Nearest posts 0 d S posts noneYet
-  nearest-none = record { lower = λ y h. absurd (not-suc-le-zero h); which = inl (refl, refl) }
-
-  pub nearest-skip : {n best least : ℕ} → Nearest posts n d S best least → (S n ≡ false → least ≤ d n) → Nearest posts (n + 1) d S best least
-  nearest-skip {n} p h = record { lower = λ y l s. ⊎-elim (λ e. rw e (h (rw e at s))) (λ l′. p .lower y l′ s) (last? y n l); which = p .which }
-
-  pub nearest-more : {n best least : ℕ} → Nearest posts n d S best least → n < posts → S n ≡ false → d n < least → Nearest posts (n + 1) d S n (d n)
-  nearest-more {n} {best} {least} p h s less =
-      record {
-        lower = λ y l t. ⊎-elim (λ e. le-of-eq (ap d (sym e))) (λ l′. omega (arith, p .lower y l′ t)) (last? y n l);
-        which = inr (h, s, refl, ⊎-elim (λ w. omega (arith, w .1)) (λ w. omega (arith, w .3)) (p .which));
-      }

@@ -43,9 +43,9 @@ pub record Relaxed (a b weights : List ℕ) (present : List Bool) (u du : ℕ) (
   pub most : (i v : ℕ) → i < length a → flag present i ≡ true → Joins (note a i) (note b i) u v → d′ v ≤ du + note weights i
   pub from : (v : ℕ) → (d′ v ≡ d v) ⊎ ((i : ℕ) × (i < length a) × (flag present i ≡ true) × Joins (note a i) (note b i) u v × (d′ v ≡ du + note weights i))
 
--- the least note of the unsettled posts below n, if it is below "none yet", and its post
-pub record Nearest (posts n : ℕ) (d : ℕ → ℕ) (S : ℕ → Bool) (best least : ℕ) : Type 0 where
-  pub lower : (y : ℕ) → y < n → S y ≡ false → least ≤ d y
+-- the least note of the unsettled posts, if it is below "none yet", and its post
+pub record Nearest (posts : ℕ) (d : ℕ → ℕ) (S : ℕ → Bool) (best least : ℕ) : Type 0 where
+  pub lower : (y : ℕ) → y < posts → S y ≡ false → least ≤ d y
   pub which : ((best ≡ posts) × (least ≡ noneYet)) ⊎ ((best < posts) × (S best ≡ false) × (d best ≡ least) × (least < noneYet))
 
 -- r is the lowest post whose note is "none yet", or the number of posts where every post has a note

@@ -1,7 +1,7 @@
 // Least lengths over the present segments of a net, a tree hung by them, which post is not joined, and the measures of a tree list.
 // Each is proved equal to the definition of `net`. Segments come as slices side by side: two ends, what a segment counts for (its length, or 1), and
-// whether it is present. Posts are settled one after the other, the nearest first, along an index of the net: at 256 posts and 2,048 segments some
-// 70,000 steps for a search.
+// whether it is present. Posts are settled one after the other, the nearest first, along an index of the net; which is the nearest, a ladder of the open
+// posts says: at 256 posts and 2,048 segments some 10,000 steps for a search.
 ghost use mathlib.Core.Path.{_≡_};
 ghost use mathlib.Core.Bool.{cond};
 ghost use mathlib.Core.List.{List, _++_};
@@ -13,7 +13,8 @@ ghost use Rattle.net.specs.Net.{mostPosts, mostSegments, every, segmentsOf};
 ghost use Rattle.net.specs.Trees.{noneYet, least, hung, leastLengths, shortest, hungFrom, whole, pathIn, radius};
 ghost use Rattle.shortest.specs.Lists.{flag, note, Short, Ends, Sides, Low};
 ghost use Rattle.shortest.specs.Hooks.{Hooked, Hooks};
-ghost use Rattle.shortest.specs.Notes.{Filled, Cleared, Lowered, Offered, Relaxed, Nearest, LowestApart};
+ghost use Rattle.shortest.specs.Notes.{Filled, Cleared, Lowered, Offered, Relaxed, LowestApart};
+ghost use Rattle.shortest.specs.Ladder.{Lesser, Ladder, OpenPosts, Written, NearestOn};
 ghost use Rattle.shortest.specs.Rows.{IndexOf, Pushed};
 
 // "none yet", which is larger than any length.
@@ -22,8 +23,10 @@ pub const NONE_YET: u64 = 281474976710656;
 // The entry of a post that hangs by no segment.
 pub const NO_SEGMENT: u16 = 65535;
 
-// "Posts 1 to 256", "Segments 0 to 2,048", and the codes of an index: 0, and one for each end.
+// "Posts 1 to 256", two rungs of a ladder for each, "Segments 0 to 2,048", and the codes of an index: 0, and one for each end.
 pub const MOST_POSTS: usize = 256;
+
+pub const MOST_RUNGS: usize = 512;
 
 pub const MOST_SEGMENTS: usize = 2048;
 
@@ -69,10 +72,57 @@ fn across(x: usize, y: usize, v: usize) -> usize
     if x == v { y } else { x }
 }
 
-// LEAST LENGTHS. 0 at the source, "none yet" at the other posts.
-fn clear(posts: usize, source: usize, dist: &mut [u64])
-    requires { ⌜ (source < posts) × (posts ≤ length (now dist)) ⌝ }
+// THE LADDER OF THE OPEN POSTS. The lesser of two notes.
+fn lesser(x: u64, y: u64) -> u64
+    ensures { λ r. ⌜ Lesser x y r ⌝ }
+{
+    if x < y { x } else { y }
+}
+
+// c is written at the rung of v, and what follows from it up the ladder, until nothing changes.
+fn write_up(posts: usize, v: usize, c: u64, ladder: &mut [u64])
+    requires { ⌜ (v < posts) × (2 * posts ≤ length (now ladder)) ⌝ }
+    requires { ⌜ Ladder posts (note (now ladder)) ⌝ }
+    ensures { λ _. ⌜ Written posts v c (note (now (ladder .entry))) (note (now (ladder .exit))) ⌝ }
+{
+    let mut p = posts + v;
+    ladder[p] = c;
+    while p > 1 {
+        p = p / 2;
+        let least = lesser(ladder[2 * p], ladder[2 * p + 1]);
+        if ladder[p] == least {
+            return;
+        }
+        ladder[p] = least;
+    }
+}
+
+// The open post of the least note below "none yet", or `posts` where there is none: down the ladder, to where the note of rung 1 stands.
+fn nearest(posts: usize, ladder: &[u64]) -> usize
+    requires { ⌜ (0 < posts) × (2 * posts ≤ length (now ladder)) ⌝ }
+    requires { ⌜ Ladder posts (note (now ladder)) ⌝ }
+    ensures { λ r. ⌜ NearestOn posts (note (now (ladder .entry))) r ⌝ }
+{
+    let least = ladder[1];
+    if least >= NONE_YET {
+        return posts;
+    }
+    let mut p = 1;
+    while p < posts {
+        p = 2 * p;
+        if least < ladder[p] {
+            p += 1;
+        }
+    }
+    p - posts
+}
+
+// LEAST LENGTHS. 0 at the source, "none yet" at the other posts. On the ladder, where "none yet" stands at every rung, 0 is written for the source.
+fn clear(posts: usize, source: usize, dist: &mut [u64], ladder: &mut [u64])
+    requires { ⌜ (source < posts) × (posts ≤ length (now dist)) × (2 * posts ≤ length (now ladder)) ⌝ }
+    requires { ⌜ Ladder posts (note (now ladder)) ⌝ }
     ensures { λ _. ⌜ Cleared posts source (note (now (dist .entry))) (note (now (dist .exit))) ⌝ }
+    ensures { λ _. ⌜ Written posts source 0 (note (now (ladder .entry))) (note (now (ladder .exit))) ⌝ }
 {
     let mut v = 0;
     while v < posts {
@@ -80,28 +130,45 @@ fn clear(posts: usize, source: usize, dist: &mut [u64])
         v += 1;
     }
     dist[source] = 0;
+    write_up(posts, source, 0, ladder);
 }
 
-// The note of v falls to c, unless it is that low.
-fn lower(v: usize, c: u64, dist: &mut [u64])
-    requires { ⌜ v < length (now dist) ⌝ }
+// The note of v falls to c, unless it is that low; on the ladder too, if v is open.
+fn lower(posts: usize, v: usize, c: u64, settled: &[bool], dist: &mut [u64], ladder: &mut [u64])
+    requires { ⌜ (v < posts) × (posts ≤ length (now settled)) × (posts ≤ length (now dist)) × (2 * posts ≤ length (now ladder)) ⌝ }
+    requires { ⌜ OpenPosts posts (note (now dist)) (flag (now settled)) (note (now ladder)) ⌝ }
     ensures { λ _. ⌜ Lowered v c (note (now (dist .entry))) (note (now (dist .exit))) ⌝ }
+    ensures { λ _. ⌜ OpenPosts posts (note (now (dist .exit))) (flag (now (settled .entry))) (note (now (ladder .exit))) ⌝ }
 {
     if c < dist[v] {
         dist[v] = c;
+        if !settled[v] {
+            write_up(posts, v, c, ladder);
+        }
     }
 }
 
 // c is offered across a segment of the ends x and y, from u.
-fn offer(u: usize, x: usize, y: usize, c: u64, dist: &mut [u64])
-    requires { ⌜ (x < length (now dist)) × (y < length (now dist)) ⌝ }
+fn offer(
+    posts: usize,
+    u: usize,
+    x: usize,
+    y: usize,
+    c: u64,
+    settled: &[bool],
+    dist: &mut [u64],
+    ladder: &mut [u64],
+)
+    requires { ⌜ (x < posts) × (y < posts) × (posts ≤ length (now settled)) × (posts ≤ length (now dist)) × (2 * posts ≤ length (now ladder)) ⌝ }
+    requires { ⌜ OpenPosts posts (note (now dist)) (flag (now settled)) (note (now ladder)) ⌝ }
     ensures { λ _. ⌜ Offered u x y c (note (now (dist .entry))) (note (now (dist .exit))) ⌝ }
+    ensures { λ _. ⌜ OpenPosts posts (note (now (dist .exit))) (flag (now (settled .entry))) (note (now (ladder .exit))) ⌝ }
 {
     if x == u {
-        lower(y, c, dist);
+        lower(posts, y, c, settled, dist, ladder);
     }
     if y == u {
-        lower(x, c, dist);
+        lower(posts, x, c, settled, dist, ladder);
     }
 }
 
@@ -144,53 +211,45 @@ pub fn index(posts: usize, a: &[u16], b: &[u16], head: &mut [u16], next: &mut [u
     }
 }
 
-// Every present segment at u is offered, from u's note du.
+// Every present segment at u is offered, from u's note.
 fn relax(
     posts: usize,
     u: usize,
-    du: u64,
     a: &[u16],
     b: &[u16],
     weights: &[u32],
     present: &[bool],
     head: &[u16],
     next: &[u16],
+    settled: &[bool],
     dist: &mut [u64],
+    ladder: &mut [u64],
 )
     requires { ⌜ Sides posts (now a) (now b) (now weights) (now present) ⌝ }
     requires { ⌜ IndexOf posts (now a) (now b) (now head) (now next) ⌝ }
-    requires { ⌜ (u < posts) × (du < noneYet) × (posts ≤ length (now dist)) ⌝ }
-    ensures { λ _. ⌜ Relaxed (now (a .entry)) (now (b .entry)) (now (weights .entry)) (now (present .entry)) u du (note (now (dist .entry))) (note (now (dist .exit))) ⌝ }
+    requires { ⌜ (u < posts) × (note (now dist) u < noneYet) × (posts ≤ length (now settled)) × (posts ≤ length (now dist)) × (2 * posts ≤ length (now ladder)) ⌝ }
+    requires { ⌜ OpenPosts posts (note (now dist)) (flag (now settled)) (note (now ladder)) ⌝ }
+    ensures { λ _. ⌜ Relaxed (now (a .entry)) (now (b .entry)) (now (weights .entry)) (now (present .entry)) u (note (now (dist .entry)) u) (note (now (dist .entry))) (note (now (dist .exit))) ⌝ }
+    ensures { λ _. ⌜ OpenPosts posts (note (now (dist .exit))) (flag (now (settled .entry))) (note (now (ladder .exit))) ⌝ }
 {
+    let du = dist[u];
     let mut c = at16(head, u);
     while c > 0 {
         let i = (c - 1) / 2;
         if present[i] {
-            offer(u, at16(a, i), at16(b, i), du + wide(at32(weights, i)), dist);
+            offer(
+                posts,
+                u,
+                at16(a, i),
+                at16(b, i),
+                du + wide(at32(weights, i)),
+                settled,
+                dist,
+                ladder,
+            );
         }
         c = at16(next, c);
     }
-}
-
-// The unsettled post of the least note below "none yet", or `posts` where there is none.
-fn nearest(posts: usize, dist: &[u64], settled: &[bool; MOST_POSTS]) -> usize
-    requires { ⌜ (posts ≤ length (now dist)) × (posts ≤ mostPosts) ⌝ }
-    ensures { λ r. ⌜ ((least : ℕ) × Nearest posts posts (note (now (dist .entry))) (flag (now (settled .entry))) r least) ⌝ }
-{
-    let mut best = posts;
-    let mut least = NONE_YET;
-    let mut v = 0;
-    while v < posts {
-        if !settled[v] {
-            let d = dist[v];
-            if d < least {
-                least = d;
-                best = v;
-            }
-        }
-        v += 1;
-    }
-    best
 }
 
 // The least lengths from `source` over the present segments, by the net's index: the nearest post is settled, one after the other.
@@ -211,13 +270,26 @@ pub fn search(
     ensures { λ _. ⌜ now (dist .exit) ≡ least (segmentsOf (now (a .entry)) (now (b .entry)) (now (weights .entry))) (flag (now (present .entry))) (note (now (weights .entry))) posts source ++ drop posts (now (dist .entry)) ⌝ }
 {
     let mut settled = [false; MOST_POSTS];
-    clear(posts, source, dist);
-    let mut u = nearest(posts, dist, &settled);
+    let mut ladder = [NONE_YET; MOST_RUNGS];
+    clear(posts, source, dist, &mut ladder);
+    let mut u = nearest(posts, &ladder);
     while u < posts {
         settled[u] = true;
-        let du = dist[u];
-        relax(posts, u, du, a, b, weights, present, head, next, dist);
-        u = nearest(posts, dist, &settled);
+        write_up(posts, u, NONE_YET, &mut ladder);
+        relax(
+            posts,
+            u,
+            a,
+            b,
+            weights,
+            present,
+            head,
+            next,
+            &settled,
+            dist,
+            &mut ladder,
+        );
+        u = nearest(posts, &ladder);
     }
 }
 

@@ -1,4 +1,4 @@
--- `shortest::clear` meets its contract: the loop fills the first posts with "none yet" (`Filling`), then 0 stands at the source.
+-- `shortest::clear` meets its contract: the loop fills the first posts with "none yet" (`Filling`), then 0 stands at the source, and is written up the ladder.
 use mathlib.Core.Path.{_≡_}
 use Prim.Native.Nat.{_≤_, _-_}
 use native.Mathlib.Omega.{arith}
@@ -9,10 +9,10 @@ use Rattle.shortest.proofs.clear.Statement.{statement}
 use Rattle.shortest.proofs.clear.Tie as tie
 
 abbrev Inv-loop : tie.InvT-loop
-Inv-loop posts source dist₀ v₀ dist v = (v ≤ posts) × Filling noneYet v dist₀ dist
+Inv-loop posts source dist₀ ladder v₀ dist v = (v ≤ posts) × Filling noneYet v dist₀ dist
 
 abbrev μ-loop : tie.MeasureT-loop
-μ-loop posts source dist₀ v₀ dist v = posts - v
+μ-loop posts source dist₀ ladder v₀ dist v = posts - v
 
 loop-holds : tie.Need-loop-holds Inv-loop μ-loop
 loop-holds c = (omega arith, filling-none _)
@@ -38,11 +38,20 @@ mul-dist-2 c = omega arith
 slice-write-dist-2 : tie.Need-slice-write-dist-2 Inv-loop μ-loop
 slice-write-dist-2 c = omega arith
 
+write-up-requires : tie.Need-write-up-requires Inv-loop μ-loop
+write-up-requires c κs = (omega (arith, c .before .before .before .before .before .pre .0), c .before .before .before .before .before .pre .1)
+
 same-length : tie.Need-same-length Inv-loop μ-loop
-same-length c = simp length-set (c .before .loop .inv .1 .same)
+same-length c = simp length-set (c .before .before .before .before .before .loop .inv .1 .same)
+
+same-length-2 : tie.Need-same-length-2 Inv-loop μ-loop
+same-length-2 c = c .before .before .write-up .kept .1 .1 .1 .0
 
 returns : tie.Need-returns Inv-loop μ-loop
-returns c = let e : c .before .loop .v ≡ c .before .before .args .posts = omega arith in let f = c .before .loop .inv .1 in cleared (rw e at f) (omega arith) (omega arith)
+returns c =
+    let e : c .before .before .before .before .before .loop .v ≡ c .before .before .before .before .before .before .before .before .args .posts = omega arith in
+    let f = c .before .before .before .before .before .loop .inv .1 in
+    (cleared (rw e at f) (omega arith) (omega arith), c .before .before .write-up .ensures)
 
 pub clear-spec : {M : Type 1} → statement M
 clear-spec =
@@ -58,5 +67,7 @@ clear-spec =
     loop-again
     mul-dist-2
     slice-write-dist-2
+    write-up-requires
     same-length
+    same-length-2
     returns)

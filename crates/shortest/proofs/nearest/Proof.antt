@@ -1,55 +1,52 @@
--- `shortest::nearest` meets its contract: at the head of the loop the least note of the unsettled posts passed, and its post (`Nearest`).
-use mathlib.Core.Logic.{⊎-elim}
-use mathlib.Core.Path.{_≡_}
-use Prim.Native.Nat.{_≤_, _-_}
+-- `shortest::nearest` meets its contract: at the head of the loop the least note stands at rung p (`Descending`).
+use Prim.Native.Nat.{_-_}
 use native.Mathlib.Omega.{arith}
-use borrow.Author.Tests.{not-true, not-false}
-use Rattle.shortest.specs.Notes.{Nearest}
-use Rattle.shortest.specs.Lists.{flag, note}
-use Rattle.shortest.proofs.Settling.{not-both}
-use Rattle.shortest.proofs.Notes.{nearest-none, nearest-skip, nearest-more}
+use Rattle.shortest.specs.Lists.{note}
+use Rattle.shortest.proofs.Ladder.{Descending, descending, down-first, down-second, nearest-none, descended}
 use Rattle.shortest.proofs.nearest.Statement.{statement}
 use Rattle.shortest.proofs.nearest.Tie as tie
 
 abbrev Inv-loop : tie.InvT-loop
-Inv-loop posts dist settled best₀ least₀ v₀ best least v = (v ≤ posts) × Nearest posts v (note dist) (flag settled) best least
+Inv-loop posts ladder least p₀ p = Descending posts (note ladder) p
 
 abbrev μ-loop : tie.MeasureT-loop
-μ-loop posts dist settled best₀ least₀ v₀ best least v = posts - v
+μ-loop posts ladder least p₀ p = posts - p
 
-loop-holds : tie.Need-loop-holds Inv-loop μ-loop
-loop-holds c = (omega arith, nearest-none)
-
-element-copy-out-if1 : tie.Need-element-copy-out-if1 Inv-loop μ-loop
-element-copy-out-if1 c = omega arith
-
-mul-d : tie.Need-mul-d Inv-loop μ-loop
-mul-d c = omega arith
-
-shared-slice-read-d : tie.Need-shared-slice-read-d Inv-loop μ-loop
-shared-slice-read-d c = omega arith
-
-add-v : tie.Need-add-v Inv-loop μ-loop
-add-v c = omega arith
-
-loop-less : tie.Need-loop-less Inv-loop μ-loop
-loop-less c = omega arith
-
-loop-again : tie.Need-loop-again Inv-loop μ-loop
-loop-again c =
-    let inv = c .before .before .before .loop .inv .1 in (
-      omega arith,
-      ⊎-elim
-          (λ w. rw (w .3, w .4) (nearest-more inv (omega arith) (not-true _ (w .0 .taken)) (omega (arith, w .2 .taken))))
-          (⊎-elim (λ w. rw (w .3, w .4) (nearest-skip inv (λ _. omega (arith, w .2 .left)))) (λ w. rw (w .1, w .2) (nearest-skip inv (λ t. not-both (not-false _ (w .0 .left)) t))))
-          (c .if1 .came),
-    )
+shared-slice-read-least : tie.Need-shared-slice-read-least Inv-loop μ-loop
+shared-slice-read-least c = omega (arith, c .before .pre)
 
 returns : tie.Need-returns Inv-loop μ-loop
-returns c =
-    let e : c .before .loop .v ≡ c .before .before .args .posts = omega arith in
-    let p = c .before .loop .inv .1 in
-    (_, rw e at p)
+returns c = nearest-none (c .if1 .taken)
+
+loop-holds : tie.Need-loop-holds Inv-loop μ-loop
+loop-holds c = descending (c .before .before .pre .0 .0)
+
+mul-p : tie.Need-mul-p Inv-loop μ-loop
+mul-p c = omega (arith, c .before .before .before .before .pre .0 .1)
+
+mul-if2 : tie.Need-mul-if2 Inv-loop μ-loop
+mul-if2 c = omega (arith, c .before .before .before .before .pre .0 .1)
+
+shared-slice-read-if2 : tie.Need-shared-slice-read-if2 Inv-loop μ-loop
+shared-slice-read-if2 c = omega (arith, c .before .before .before .before .before .pre .0 .1)
+
+add-p : tie.Need-add-p Inv-loop μ-loop
+add-p c = omega (arith, c .before .before .before .before .before .before .pre .0 .1)
+
+loop-less : tie.Need-loop-less Inv-loop μ-loop
+loop-less c = omega (arith, c .before .before .before .loop .inv .above)
+
+loop-again : tie.Need-loop-again Inv-loop μ-loop
+loop-again c = down-second (c .before .before .before .loop .inv) (c .before .before .before .before .before .before .pre .1) (c .before .before .loop-test .taken) (c .if2 .taken)
+
+loop-less-2 : tie.Need-loop-less-2 Inv-loop μ-loop
+loop-less-2 c = omega (arith, c .before .before .before .loop .inv .above)
+
+loop-again-2 : tie.Need-loop-again-2 Inv-loop μ-loop
+loop-again-2 c = down-first (c .before .before .before .loop .inv) (c .before .before .before .before .before .before .pre .1) (c .before .before .loop-test .taken) (c .if2 .left)
+
+returns-2 : tie.Need-returns-2 Inv-loop μ-loop
+returns-2 c = descended (c .before .loop .inv) (c .loop-test .left) (c .before .before .if1 .left)
 
 pub nearest-spec : {M : Type 1} → statement M
 nearest-spec =
@@ -57,11 +54,15 @@ nearest-spec =
     (tie.spec
     Inv-loop
     μ-loop
+    shared-slice-read-least
+    returns
     loop-holds
-    element-copy-out-if1
-    mul-d
-    shared-slice-read-d
-    add-v
+    mul-p
+    mul-if2
+    shared-slice-read-if2
+    add-p
     loop-less
     loop-again
-    returns)
+    loop-less-2
+    loop-again-2
+    returns-2)
