@@ -7,7 +7,8 @@
  * Every pointer is followed by the number of entries that it points to; no two
  * of the lists that a call may write into overlap each other or the record.
  * Where the number is 0 the pointer isn't followed. Nothing is kept between
- * calls, and no memory is asked for: a call takes less than 256 KiB of stack.
+ * calls, and no memory is asked for: a call takes less than 512 KiB of stack
+ * (seen by tests, not proved).
  *
  * Whatever can't be done is refused: the answer then holds a number of
  * enum drover_refusal and a place, see drover_number and drover_place, and all

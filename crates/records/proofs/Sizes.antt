@@ -1,17 +1,15 @@
 -- 1 to 7 of a whole net, segment by segment, with what the segments take: the loop that checks and measures before anything is written. Relies on
 -- net's lines of refusals, Lines and Puts.
-use Prim.Native.Nat.{ℕ, zero, suc, _+_, _*_, _<_, _≤_}
-use mathlib.Core.Bool.{Bool, true, false, cond}
+use Prim.Native.Nat.{ℕ, suc, _+_, _*_, _<_, _≤_}
 use mathlib.Core.Path.{_≡_, refl, sym, _∙_}
-use mathlib.Core.List.{List, [], _∷_, _++_}
+use mathlib.Core.List.{List, [], _++_}
 use mathlib.Core.Option.{Option, none, some}
 use native.Mathlib.Numerals.{add-one}
 use native.Mathlib.Omega.{arith}
-use lib.Dec.{ltb}
 use lib.ListN.{length, take, length-append}
 use lib.Seq.{take-all}
-use borrow.Author.Tests.{ltb-true, ltb-false}
 use Rattle.net.specs.Words.{each}
+use Rattle.net.proofs.Tables.{FirstOf, first-of, first-only, first-is, some-append, none-append, LowestOf, nowhere, lowest-of, some-each}
 use Rattle.net.specs.Net.{every, segmentAt}
 use Rattle.net.specs.Refusals.{Line, first, segmentLines, presentLines, allSegmentLines, checkedOf}
 use Rattle.net.specs.declared.Segment.{Segment}
@@ -25,24 +23,10 @@ use Rattle.records.proofs.Puts.{segments-next, taken-at}
 
 -- the first of two runs of lines
 pub first-none : (ls ms : List Line) → first ls ≡ none → first (ls ++ ms) ≡ first ms
-unfolding first
-first-none [] ms e = refl
-first-none (l ∷ ls) ms e = go (l .holds) e (first-none ls ms)
-  where
-    go : (t : Bool) → cond t (some (l .gives)) (first ls) ≡ none → (first ls ≡ none → first (ls ++ ms) ≡ first ms)
-        → cond t (some (l .gives)) (first (ls ++ ms)) ≡ first ms
-    go true e on = let z : _≡_ {A = ℕ} 0 1 = cc in absurd (omega arith)
-    go false e on = on e
+first-none ls ms e = sym (first-only (none-append (first-is e) (first-of ms)))
 
 pub first-some : (ls ms : List Line) (r : Refusal) → first ls ≡ some r → first (ls ++ ms) ≡ some r
-unfolding first
-first-some [] ms r e = let z : _≡_ {A = ℕ} 0 1 = cc in absurd (omega arith)
-first-some (l ∷ ls) ms r e = go (l .holds) e (first-some ls ms r)
-  where
-    go : (t : Bool) → cond t (some (l .gives)) (first ls) ≡ some r → (first ls ≡ some r → first (ls ++ ms) ≡ some r)
-        → cond t (some (l .gives)) (first (ls ++ ms)) ≡ some r
-    go true e on = e
-    go false e on = on e
+first-some ls ms r e = sym (first-only (some-append ms (first-is e)))
 
 pub both-none : (ls ms : List Line) → first (ls ++ ms) ≡ none → (first ls ≡ none) × (first ms ≡ none)
 both-none ls ms e = go (first ls) refl
@@ -80,14 +64,11 @@ module _ (posts : ℕ) (ss : List Segment) where
   lines-next i e f = rw (add-one, lines-step) (first-none (linesTo i) (linesOf i) e ∙ f)
 
   pub lines-stop : (n i : ℕ) (r : Refusal) → i < n → first (linesTo i) ≡ none → first (linesOf i) ≡ some r → first (linesTo n) ≡ some r
-  lines-stop zero i r h e f = absurd (omega arith)
-  lines-stop (suc n) i r h e f = go (ltb i n) refl (lines-stop n i r)
+  unfolding presentLines
+  lines-stop n i r h e f = sym (first-only (some-each linesOf n h (none-before (lowest-of linesOf i (first-is e))) (first-is f)))
     where
-      go : (t : Bool) → ltb i n ≡ t → (i < n → first (linesTo i) ≡ none → first (linesOf i) ≡ some r → first (linesTo n) ≡ some r) → first (linesTo (suc n)) ≡ some r
-      go true g on = rw lines-step (first-some (linesTo n) (linesOf n) r (on (ltb-true _ _ g) e f))
-      go false g on =
-          let q : i ≡ n = (let l = ltb-false i n g in omega arith) in
-          rw lines-step (first-none (linesTo n) (linesOf n) (rw q at e) ∙ (rw q at f))
+      none-before : LowestOf linesOf i none → (j : ℕ) → j < i → FirstOf (linesOf j) none
+      none-before (nowhere g) = g
 
   -- THE LOOP: none of 5 to 7 holds of the first i segments, and they take `size` bytes
   pub record SizedTo (size place i : ℕ) : Type 0 where

@@ -1,19 +1,19 @@
 -- Which post is not joined: the lowest post whose least length is "none yet" is that of refusal 9. Rests on `Lists`.
-use mathlib.Core.Path.{_≡_, refl, _∙_}
-use mathlib.Core.Bool.{Bool, true, false, not, cond}
+use mathlib.Core.Path.{_≡_, sym, ap, _∙_}
+use mathlib.Core.Bool.{Bool, true, false, not}
 use mathlib.Core.List.{List, [], _∷_, _++_}
 use mathlib.Core.Option.{none, some}
 use mathlib.Core.Logic.{⊎-elim}
-use Prim.Native.Nat.{ℕ, zero, suc, _+_, _<_, _≤_}
+use Prim.Native.Nat.{ℕ, _+_, _<_, _≤_}
 use native.Mathlib.Omega.{arith}
 use native.Mathlib.Decide.{decLt}
 use lib.ListN.{length}
 use Rattle.net.specs.Net.{mostPosts, longest, lengthAt}
 use Rattle.net.specs.Trees.{noneYet, at, joined, leastLengths}
 use Rattle.net.specs.Refusals.{Line, line, first, joinedLines, refusal}
-use Rattle.net.specs.declared.Refusal.{Refusal}
 use Rattle.net.specs.declared.Segment.{Segment}
 use Rattle.net.proofs.Words.{so-false}
+use Rattle.net.proofs.Tables.{end, here, below, first-only, none-each, some-each}
 use Rattle.net.proofs.Least.{Inside, length-least, joined-chain, chain-joined, least-is, least-small}
 use Rattle.shortest.specs.Lists.{note}
 use Rattle.shortest.specs.Notes.{LowestApart}
@@ -29,41 +29,29 @@ near-none = record { near = λ x h. absurd (omega arith) }
 pub near-more : {d : ℕ → ℕ} {v : ℕ} → AllNear d v → d v < noneYet → AllNear d (v + 1)
 near-more {d} {v} r h = record { near = λ x k. ⊎-elim (λ e. rw e h) (λ l. r .near x l) (last? x v k) }
 
--- THE TABLE
-first-join : (xs ys : List Line) → first xs ≡ none → first (xs ++ ys) ≡ first ys
-unfolding first
-first-join [] ys e = refl
-first-join (x ∷ xs) ys e = pick (x .holds) refl (first-join xs ys)
-  where
-    pick : (t : Bool) → x .holds ≡ t → (first xs ≡ none → first (xs ++ ys) ≡ first ys) → cond (x .holds) (some (x .gives)) (first (xs ++ ys)) ≡ first ys
-    pick true h f = let z : some (x .gives) ≡ none = rw h at e in absurd (let y : _≡_ {A = ℕ} 0 1 = cc in omega arith)
-    pick false h f = rw h (f (rw h at e))
+-- TWO OUTCOMES of `lowest_apart` are equal
+not-lower : {posts : ℕ} {d : ℕ → ℕ} {r r′ : ℕ} → LowestApart posts d r → LowestApart posts d r′ → r < r′ → ⊥
+not-lower {r = r} x y h = omega (arith, x .apart (omega (arith, y .up-to)), y .near r h)
 
-first-keep : (xs ys : List Line) (r : Refusal) → first xs ≡ some r → first (xs ++ ys) ≡ some r
-unfolding first
-first-keep [] ys r e = absurd (let y : _≡_ {A = ℕ} 0 1 = cc in omega arith)
-first-keep (x ∷ xs) ys r e = pick (x .holds) refl (first-keep xs ys r)
-  where
-    pick : (t : Bool) → x .holds ≡ t → (first xs ≡ some r → first (xs ++ ys) ≡ some r) → cond (x .holds) (some (x .gives)) (first (xs ++ ys)) ≡ some r
-    pick true h f = rw h (rw h at e)
-    pick false h f = rw h (f (rw h at e))
+pub lowest-one : {posts : ℕ} {d : ℕ → ℕ} {r r′ : ℕ} → LowestApart posts d r → LowestApart posts d r′ → r ≡ r′
+lowest-one {r = r} {r′ = r′} x y = elim (decLt r r′) [
+  | yes p ↦ absurd (not-lower x y p)
+  | no p ↦ elim (decLt r′ r) [ yes q ↦ absurd (not-lower y x q) | no q ↦ omega arith ]
+]
+
+-- THE TABLE. The line of post v
+abbrev lineOf : (ℕ → Bool) → ℕ → List Line
+lineOf j v = line 9 (not (j v)) v ∷ []
 
 -- no line passes where every post is joined
-pub lines-none : (j : ℕ → Bool) (n : ℕ) → ((v : ℕ) → v < n → j v ≡ true) → first (joinedLines n j) ≡ none
-unfolding first joinedLines
-lines-none j zero f = refl
-lines-none j (suc n) f = first-join (joinedLines n j) (line 9 (not (j n)) n ∷ []) (lines-none j n (λ v h. f v (omega arith))) ∙ rw (f n (omega arith))
+lines-none : (j : ℕ → Bool) (n : ℕ) → ((v : ℕ) → v < n → j v ≡ true) → first (joinedLines n j) ≡ none
+unfolding joinedLines
+lines-none j n f = sym (first-only (none-each (lineOf j) n (λ v h. below (ap not (f v h)) end)))
 
 -- the first line is that of the lowest post that is not joined
-pub lines-some : (j : ℕ → Bool) (n r : ℕ) → r < n → ((v : ℕ) → v < r → j v ≡ true) → j r ≡ false → first (joinedLines n j) ≡ some (refusal 9 r)
-unfolding first joinedLines
-lines-some j zero r h f e = absurd (omega arith)
-lines-some j (suc n) r h f e = elim (decLt r n) [
-  | yes p ↦ first-keep (joinedLines n j) (line 9 (not (j n)) n ∷ []) (refusal 9 r) (lines-some j n r p f e)
-  | no p ↦
-      let z : r ≡ n = omega arith in
-      first-join (joinedLines n j) (line 9 (not (j n)) n ∷ []) (lines-none j n (λ v k. f v (omega arith))) ∙ rw (← z) (rw e)
-]
+lines-some : (j : ℕ → Bool) (n r : ℕ) → r < n → ((v : ℕ) → v < r → j v ≡ true) → j r ≡ false → first (joinedLines n j) ≡ some (refusal 9 r)
+unfolding joinedLines
+lines-some j n r h f e = sym (first-only (some-each (lineOf j) n h (λ v k. below (ap not (f v k)) end) (here (ap not e))))
 
 -- A NOTE IS BELOW "NONE YET" EXACTLY WHERE A CHAIN JOINS THE POST, where lengths are at most 1,048,575
 module _ (segs : List Segment) (ok : ℕ → Bool) (n : ℕ) (inside : Inside segs ok n) (s : ℕ) (in-s : s < n) (few : n ≤ mostPosts)
