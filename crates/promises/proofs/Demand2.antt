@@ -1,5 +1,6 @@
 -- Demand 2 of every entry: the trees and the margins, the records, the drawn runs.
 use mathlib.Core.Path.{_≡_, refl, sym, ap, _∙_}
+use mathlib.Core.Option.{Option, none, some}
 use mathlib.Core.List.{List, _++_}
 use Prim.Native.Nat.{ℕ, _≤_}
 use native.Mathlib.Nat.{le-refl}
@@ -9,10 +10,11 @@ use lib.ListN.{length, take, drop}
 use lib.Seq.{take-at, drop-at, take-append-seam}
 use Rattle.net.specs.Net.{Net, every}
 use Rattle.net.specs.Rules.{NetSound, AllJoined}
-use Rattle.net.specs.Trees.{IsTree, pathIn}
+use Rattle.net.specs.Trees.{IsTree, pathIn, marginBy}
 use Rattle.net.specs.Building as B
-use Rattle.net.specs.Building.{Measured, built, lightestOf, shortestOf, betweenOf, walkOf, treeOf, measured, buildAnswer, marginOf}
+use Rattle.net.specs.Building.{Measured, built, lightestOf, shortestOf, betweenOf, walkOf, treeOf, measured, buildAnswer, marginRefusal, marginIn, marginAnswer, marginOf}
 use Rattle.net.specs.declared.Segment.{Segment}
+use Rattle.net.specs.declared.Refusal.{Refusal}
 use Rattle.net.specs.declared.Tree.{Tree}
 use Rattle.net.specs.declared.Tree.the-variants.{Lightest, Shortest, Between}
 use Rattle.net.proofs.Sound.{D-is-least, shortest-says, lightest-exactly, lightest-tree, shortest-tree, between-tree, walk-fuel}
@@ -20,7 +22,7 @@ use Rattle.lent.specs.Lists.{netOn}
 use Rattle.looms.specs.Answers.{saysOf, Leaves, marginAnswerOf, marginSaysOf}
 use Rattle.looms.specs.declared.Answer.{Answer}
 use Rattle.looms.specs.declared.MarginAnswer.{MarginAnswer}
-use Rattle.looms.proofs.Unique.{margin-answer-says}
+use Rattle.looms.proofs.Unique.{margin-answer-says, margin-says}
 use Rattle.looms.specs.declared.MarginAnswer.the-variants.{Margin}
 use Rattle.looms.proofs.Meaning.{given-below, given-zero, given-source, given-between, given-shortest}
 use Rattle.records.specs.Numbers.{Bytes, Got, got, refused}
@@ -94,9 +96,20 @@ module _ (n : Net) (m : ℕ) (fits : length (n .segments) ≤ m) (t : Tree) (pos
   given : a ≡ Margin z
   given = sym (margin-answer-says a) ∙ ap marginAnswerOf says
 
+  held : (o : Option Refusal) → marginAnswer every n o t post ≡ B.MarginAnswer.margin z → z ≡ marginIn every n t post
+  unfolding marginAnswer
+  held none e = cc
+  held (some r) e = absurd (let k : _≡_ {A = ℕ} 0 1 = cc in omega arith)
+
+  is-difference : z ≡ marginIn every n t post
+  unfolding marginOf
+  is-difference = held (marginRefusal every n m post) (sym (margin-says n m t post is) ∙ says)
+
   pub margin-as-stated : MarginAsStated n t post z
+  unfolding marginIn marginBy
   margin-as-stated =
       record {
+        difference = is-difference;
         below-zero = given-below n m t post is given;
         zero-at-limit = given-zero n m t post is given;
         source-zero = given-source n m t post is given fits;

@@ -57,7 +57,7 @@ pub record MarginRefuses (n : Net) (m : ℕ) (t : Tree) (post : ℕ) : Type 0 wh
   pub refuses : {a : MarginAnswer} → a ≡ marginAnswerOf (marginOf every n m t post) → (r : Refusal) → marginRefusal every n m post ≡ some r → marginSaysOf a ≡ B.MarginAnswer.refused r
   pub only-then : {a : MarginAnswer} → a ≡ marginAnswerOf (marginOf every n m t post) → (r : Refusal) → marginSaysOf a ≡ B.MarginAnswer.refused r → marginRefusal every n m post ≡ some r
 
--- READING the bytes of a record into a list that holds l
+-- READING the bytes of a record, each below 256 (`Bytes`), into a list that holds l
 pub record ReadRefuses (bytes : List ℕ) (l : List Segment) : Type 0 where
   pub by-the-rules : Bytes bytes → ReadRule bytes (length l) (netRead bytes (length l) 0)
   pub no-other : (g : Got Net) → ReadRule bytes (length l) g → netRead bytes (length l) 0 ≡ g

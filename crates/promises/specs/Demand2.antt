@@ -9,7 +9,7 @@ use mathlib.Core.Bool.{false}
 use mathlib.Core.List.{List, _++_}
 use Prim.Native.Nat.{ℕ, _+_, _*_, _≤_, _<_}
 use lib.Dec.{ltb}
-use lib.IntN.{ℤ, pos}
+use lib.IntN.{ℤ, pos, subℕ}
 use lib.Signed.{ltZ}
 use lib.Ieee.{Float}
 use lib.ListN.{length, take, drop}
@@ -77,6 +77,8 @@ pub record BuiltAsStated (n : Net) (l s w l′ s′ w′ : List ℕ) (lightest s
 
 -- A MARGIN z that is given for a post in the named tree: "It is signed, and below zero exactly when the post breaks the limit. For the source it is 0."
 pub record MarginAsStated (n : Net) (t : Tree) (post : ℕ) (z : ℤ) : Type 0 where
+  -- "(p + q) × D minus q × path in the tree"
+  pub difference : z ≡ subℕ ((n .head .p + n .head .q) * at (leastLengthsOf every n) post) (n .head .q * pathIn (n .segments) (n .head .posts) (treeOf every n t) post)
   pub below-zero : ltZ z (pos 0)
       ≡ ltb ((n .head .p + n .head .q) * at (leastLengthsOf every n) post) (n .head .q * pathIn (n .segments) (n .head .posts) (treeOf every n t) post)
   pub zero-at-limit : (z ≡ pos 0)
@@ -86,7 +88,7 @@ pub record MarginAsStated (n : Net) (t : Tree) (post : ℕ) (z : ℤ) : Type 0 w
   pub between-within : t ≡ Between → ltZ z (pos 0) ≡ false
   pub shortest-within : t ≡ Shortest → ltZ z (pos 0) ≡ false
 
--- RECORDS: "read and written both ways without loss, one record for one net"
+-- RECORDS: "read and written both ways without loss, one record for one net". What is read are bytes, each below 256 (`Bytes`)
 pub record RecordsBothWays : Type 0 where
   -- what was written reads as the same net, laid into any list that is long enough
   pub written-then-read : (n : Net) (room : List ℕ) {a : WriteAnswer} {size : ℕ} {x : List ℕ} → Writes n (length (n .segments)) room a x → saysWritten a ≡ result size
