@@ -6,11 +6,12 @@ use Prim.Native.Nat.{ℕ}
 use native.Mathlib.Omega.{arith}
 use lib.ListN.{length}
 use Rattle.net.specs.Net.{Net, every}
-use Rattle.net.specs.Building.{buildRefusal, listAfter, afterBuild, marginRefusal, marginAnswer, marginOf}
+use Rattle.net.specs.Building.{buildRefusal, buildAnswer, buildOf, listAfter, afterBuild, marginRefusal, marginAnswer, marginOf}
 use Rattle.net.specs.Building as B
 use Rattle.net.specs.declared.Segment.{Segment}
 use Rattle.net.specs.declared.Refusal.{Refusal}
 use Rattle.net.specs.declared.Tree.{Tree}
+use Rattle.net.specs.declared.Tree.the-variants.{Lightest, Shortest, Between}
 use Rattle.net.proofs.Refusals.{build-answers, build-only, nine-exactly, not-joined-exactly, margin-answers, margin-only}
 use Rattle.lent.specs.Lists.{netOn}
 use Rattle.looms.specs.Answers.{answerOf, saysOf, lentOf, marginAnswerOf, marginSaysOf}
@@ -26,9 +27,12 @@ use Rattle.records.specs.declared.writing.WriteAnswer.{WriteAnswer}
 use Rattle.records.proofs.Ruled.{read-answers, read-only}
 use Rattle.records.proofs.RuledWriting.{write-answers, write-only}
 use Rattle.droverboot.specs.Reading.{readAnswer, listRead}
+use Rattle.plans.specs.Asked.{recordRead, plannedWith, planOf, treeList, Plans}
+use Rattle.plans.specs.Says.{saysPlanned}
+use Rattle.plans.specs.declared.PlanAnswer.{PlanAnswer}
 use Rattle.drawn.specs.declared.Run.{Run}
 use Rattle.drawn.proofs.Rules.{outcome-answers, outcome-only}
-use Rattle.promises.specs.Demand1.{BuildRefuses, MarginRefuses, ReadRefuses, WriteRefuses, DrawnRefuses, Demand1}
+use Rattle.promises.specs.Demand1.{BuildRefuses, MarginRefuses, ReadRefuses, WriteRefuses, PlanRefuses, DrawnRefuses, Demand1}
 
 module _ (n : Net) (m : ℕ) (l s w : List ℕ) where
   kept : (r : Refusal) → buildRefusal every n m (lentOf l s w) ≡ some r → (t : Tree) (before now : List ℕ) → now ≡ afterBuild every n m (lentOf l s w) t before → now ≡ before
@@ -112,6 +116,29 @@ module _ (n : Net) (m : ℕ) (room : List ℕ) where
         only-then = write-refused;
       }
 
+module _ (bytes l s w : List ℕ) where
+  unread-plan : {a : PlanAnswer} {l′ s′ w′ : List ℕ} → Plans bytes l s w a l′ s′ w′
+      → (r : Refusal) → recordRead bytes ≡ refused r → (saysPlanned a ≡ refusal-of r) × (l′ ≡ l) × (s′ ≡ s) × (w′ ≡ w)
+  unread-plan k r e = (
+    ap saysPlanned (k .answer ∙ ap (λ g. planOf g (lentOf l s w)) e),
+    k .lightest ∙ ap (λ g. treeList g (lentOf l s w) Lightest l) e,
+    k .shortest ∙ ap (λ g. treeList g (lentOf l s w) Shortest s) e,
+    k .between ∙ ap (λ g. treeList g (lentOf l s w) Between w) e,
+  )
+
+  unbuilt-plan : {a : PlanAnswer} {l′ s′ w′ : List ℕ} → Plans bytes l s w a l′ s′ w′ → (n : Net) (next : ℕ) → recordRead bytes ≡ got n next
+      → (r : Refusal) → buildRefusal every n (length (n .segments)) (lentOf l s w) ≡ some r → (saysPlanned a ≡ refusal-of r) × (l′ ≡ l) × (s′ ≡ s) × (w′ ≡ w)
+  unfolding buildOf buildAnswer
+  unbuilt-plan k n next i r e = (
+    ap saysPlanned (k .answer ∙ ap (λ g. planOf g (lentOf l s w)) i ∙ ap (λ o. plannedWith (n .head) (length (n .segments)) (buildAnswer every n o)) e),
+    kept n (length (n .segments)) l s w r e Lightest l _ (k .lightest ∙ ap (λ g. treeList g (lentOf l s w) Lightest l) i),
+    kept n (length (n .segments)) l s w r e Shortest s _ (k .shortest ∙ ap (λ g. treeList g (lentOf l s w) Shortest s) i),
+    kept n (length (n .segments)) l s w r e Between w _ (k .between ∙ ap (λ g. treeList g (lentOf l s w) Between w) i),
+  )
+
+  pub plan-refuses : PlanRefuses bytes l s w
+  plan-refuses = record { reading-refuses = unread-plan; building-refuses = unbuilt-plan }
+
 pub drawn-refuses : (run : Run) → DrawnRefuses run
 drawn-refuses run = record { by-the-rules = λ e. outcome-answers run _ e; no-other = λ e s. outcome-only run _ s e }
 
@@ -123,5 +150,6 @@ demand-1 =
       margin = λ h segments. margin-refuses (netOn h segments) (length segments);
       read = read-refuses;
       write = λ h segments. write-refuses (netOn h segments) (length segments);
+      plan = plan-refuses;
       drawn = drawn-refuses;
     }

@@ -22,7 +22,10 @@ use Rattle.lent.specs.Lists.{netOn}
 use Rattle.looms.specs.Answers.{saysOf, Leaves, marginAnswerOf, marginSaysOf}
 use Rattle.looms.specs.declared.Answer.{Answer}
 use Rattle.looms.specs.declared.MarginAnswer.{MarginAnswer}
-use Rattle.looms.proofs.Unique.{margin-answer-says, margin-says}
+use Rattle.looms.proofs.Unique.{says-answer, margin-answer-says, margin-says}
+use Rattle.plans.specs.Asked.{Plans}
+use Rattle.plans.specs.Says.{Plan, saysPlanned}
+use Rattle.plans.specs.declared.PlanAnswer.{PlanAnswer}
 use Rattle.looms.specs.declared.MarginAnswer.the-variants.{Margin}
 use Rattle.looms.proofs.Meaning.{given-below, given-zero, given-source, given-between, given-shortest}
 use Rattle.records.specs.Numbers.{Bytes, Got, got, refused}
@@ -39,8 +42,8 @@ use Rattle.drawn.specs.Says.{saysOf as drawnSays}
 use Rattle.drawn.specs.declared.Answer.the-variants.{Length}
 use Rattle.drawn.proofs.Rules.{same-says}
 use Rattle.drawn.proofs.Lengths.{straight-length, length-straight, corner-length, length-corner}
-use Rattle.promises.specs.Demand2.{TreesAsStated, Holds, BuiltAsStated, MarginAsStated, RecordsBothWays, DrawnAsStated, Demand2}
-use Rattle.promises.proofs.Taken.{taken-sound, taken-joined, answers, after}
+use Rattle.promises.specs.Demand2.{TreesAsStated, Holds, BuiltAsStated, PlannedAsStated, MarginAsStated, RecordsBothWays, DrawnAsStated, Demand2}
+use Rattle.promises.proofs.Taken.{taken-sound, taken-joined, answers, after, planned-net}
 
 -- THE TREES
 module _ (n : Net) (m : ℕ) (fits : length (n .segments) ≤ m) (sound : NetSound every m n) (joined : AllJoined every n) where
@@ -89,6 +92,20 @@ module _ (n : Net) (m : ℕ) (fits : length (n .segments) ≤ m) (l s w : List �
         measures-shortest = rw (i .tree) (record { length-is = cc e; radius-is = cc e });
         measures-between = rw (j .tree) (record { length-is = cc e; radius-is = cc e });
         laid-is = cc e;
+      }
+
+-- a record that was planned
+module _ (bytes l s w : List ℕ) {a : PlanAnswer} {l′ s′ w′ : List ℕ} {q : Plan} (p : Plans bytes l s w a l′ s′ w′) (e : saysPlanned a ≡ result q) where
+  pub planned-as-stated : PlannedAsStated bytes l s w l′ s′ w′ q
+  planned-as-stated =
+      let v = planned-net bytes l s w p e in
+      record {
+        n = v .n;
+        next = v .next;
+        read-is = v .read-is;
+        head-is = v .head-is;
+        count-is = v .count-is;
+        built-is = built-as-stated (v .n) (length (v .n .segments)) (le-refl (length (v .n .segments))) l s w (v .leaves) (says-answer _ ∙ v .says);
       }
 
 -- MARGINS
@@ -195,6 +212,7 @@ pub demand-2 : Demand2
 demand-2 =
     record {
       build = λ h segments l s w. built-as-stated (netOn h segments) (length segments) (le-refl (length segments)) l s w;
+      plan = planned-as-stated;
       margin = λ h segments. margin-as-stated (netOn h segments) (length segments) (le-refl (length segments));
       records = records-both-ways;
       drawn = drawn-as-stated;

@@ -1,5 +1,5 @@
 -- Demand 3 for every net that building takes.
-use mathlib.Core.Path.{_≡_}
+use mathlib.Core.Path.{_≡_, _∙_, subst}
 use mathlib.Core.List.{List}
 use Prim.Native.Nat.{ℕ, _*_, _≤_}
 use native.Mathlib.Nat.{le-refl}
@@ -13,8 +13,14 @@ use Rattle.net.proofs.Demand.{path-limit, no-slack, length-limit, length-limit-
 use Rattle.lent.specs.Lists.{netOn}
 use Rattle.looms.specs.Answers.{Leaves, saysOf}
 use Rattle.looms.specs.declared.Answer.{Answer}
+use Rattle.looms.proofs.Unique.{says-answer}
+use Rattle.records.specs.Numbers.{got}
+use Rattle.records.specs.Answers.{result}
+use Rattle.plans.specs.Asked.{recordRead, Plans}
+use Rattle.plans.specs.Says.{Plan, saysPlanned}
+use Rattle.plans.specs.declared.PlanAnswer.{PlanAnswer}
 use Rattle.promises.specs.Demand3.{Bounds, LengthWithin, Demand3}
-use Rattle.promises.proofs.Taken.{taken-sound, taken-joined}
+use Rattle.promises.proofs.Taken.{taken-sound, taken-joined, planned-net}
 use Rattle.promises.proofs.Demand2.{built-as-stated}
 
 module _ (n : Net) (m : ℕ) (fits : length (n .segments) ≤ m) (sound : NetSound every m n) (joined : AllJoined every n) where
@@ -43,5 +49,14 @@ module _ (n : Net) (m : ℕ) (fits : length (n .segments) ≤ m) (l s w : List �
       let c : Bounds n (take (n .head .posts) w′) = rw (b .holds-between .tree) (bounds n m fits (taken-sound n m l s w leaves says) (taken-joined n m l s w leaves says)) in
       (c, record { any-spanning-tree = λ U span. rw (b .measures-between .length-is) (c .length-spanning U span) })
 
+-- of a record that was planned
+bounds-planned : (bytes l s w : List ℕ) {a : PlanAnswer} {l′ s′ w′ : List ℕ} {q : Plan} → Plans bytes l s w a l′ s′ w′ → saysPlanned a ≡ result q
+    → {n : Net} {next : ℕ} → recordRead bytes ≡ got n next → Bounds n (take (n .head .posts) w′) × LengthWithin n (q .between .length)
+bounds-planned bytes l s w {w′ = w′} {q = q} p e {n} i =
+    let v = planned-net bytes l s w p e in
+    let same : v .n ≡ n = cc (v .read-is, i) in
+    subst (λ (m : Net). Bounds m (take (m .head .posts) w′) × LengthWithin m (q .between .length)) same
+    (bounds-left (v .n) (length (v .n .segments)) (le-refl (length (v .n .segments))) l s w (v .leaves) (says-answer _ ∙ v .says))
+
 pub demand-3 : Demand3
-demand-3 = record { build = λ h segments l s w. bounds-left (netOn h segments) (length segments) (le-refl (length segments)) l s w }
+demand-3 = record { build = λ h segments l s w. bounds-left (netOn h segments) (length segments) (le-refl (length segments)) l s w; plan = bounds-planned }

@@ -4,16 +4,22 @@ use mathlib.Core.Option.{Option, none, some}
 use mathlib.Core.List.{List, _++_}
 use Prim.Native.Nat.{ℕ}
 use native.Mathlib.Omega.{arith}
-use lib.ListN.{drop}
+use lib.ListN.{length, drop}
 use Rattle.net.specs.Net.{Net, every}
 use Rattle.net.specs.Rules.{NetSound, AllJoined}
-use Rattle.net.specs.Building.{Measured, built, treeOf, buildRefusal, buildAnswer, buildOf, listAfter, afterBuild}
+use Rattle.net.specs.Building.{Measured, BuildAnswer, built, refused, treeOf, buildRefusal, buildAnswer, buildOf, listAfter, afterBuild}
 use Rattle.net.specs.declared.Refusal.{Refusal}
 use Rattle.net.specs.declared.Tree.{Tree}
+use Rattle.net.specs.declared.Tree.the-variants.{Lightest, Shortest, Between}
 use Rattle.net.proofs.Refusals.{accepted}
-use Rattle.looms.specs.Answers.{lentOf, saysOf, Leaves}
+use Rattle.looms.specs.Answers.{answerOf, lentOf, saysOf, Leaves}
 use Rattle.looms.specs.declared.Answer.{Answer}
 use Rattle.looms.proofs.Unique.{build-says}
+use Rattle.records.specs.Numbers.{Got, got, refused as unread}
+use Rattle.records.specs.Answers.{result}
+use Rattle.plans.specs.Asked.{recordRead, plannedWith, planOf, treeList, Plans}
+use Rattle.plans.specs.Says.{Plan, saysPlanned}
+use Rattle.plans.specs.declared.PlanAnswer.{PlanAnswer}
 
 module _ (n : Net) (m : ℕ) (l s w : List ℕ) {a : Answer} {l′ s′ w′ : List ℕ} {x y z : Measured} {k : ℕ} (leaves : Leaves n m l s w a l′ s′ w′) (says : saysOf a ≡ built x y z k) where
   said : buildOf every n m (lentOf l s w) ≡ built x y z k
@@ -43,3 +49,41 @@ module _ (n : Net) (m : ℕ) (l s w : List ℕ) {a : Answer} {l′ s′ w′ : L
   pub after : (t : Tree) (before now : List ℕ) → now ≡ afterBuild every n m (lentOf l s w) t before → now ≡ treeOf every n t ++ drop (n .head .posts) before
   unfolding afterBuild listAfter
   after t before now e = e ∙ ap (λ o. listAfter every n o t before) taken
+
+-- A RECORD THAT WAS PLANNED was read, and what was left is what building leaves of its net
+pub record PlannedNet (bytes l s w l′ s′ w′ : List ℕ) (q : Plan) : Type 0 where
+  pub n : Net
+  pub next : ℕ
+  pub read-is : recordRead bytes ≡ got n next
+  pub head-is : q .head ≡ n .head
+  pub count-is : q .count ≡ length (n .segments)
+  pub leaves : Leaves n (length (n .segments)) l s w (answerOf (buildOf every n (length (n .segments)) (lentOf l s w))) l′ s′ w′
+  pub says : buildOf every n (length (n .segments)) (lentOf l s w) ≡ built (q .lightest) (q .shortest) (q .between) (q .laid)
+
+module _ (bytes l s w : List ℕ) {a : PlanAnswer} {l′ s′ w′ : List ℕ} {q : Plan} (p : Plans bytes l s w a l′ s′ w′) (e : saysPlanned a ≡ result q) where
+  of-built : (n : Net) (next : ℕ) → recordRead bytes ≡ got n next → (b : BuildAnswer) → buildOf every n (length (n .segments)) (lentOf l s w) ≡ b
+      → saysPlanned (plannedWith (n .head) (length (n .segments)) b) ≡ result q → PlannedNet bytes l s w l′ s′ w′ q
+  of-built n next i (built x y z k) f g =
+      let u : record { head = n .head; count = length (n .segments); lightest = x; shortest = y; between = z; laid = k } ≡ q = cc in
+      record {
+        n = n;
+        next = next;
+        read-is = i;
+        head-is = sym (ap (λ (v : Plan). v .head) u);
+        count-is = sym (ap (λ (v : Plan). v .count) u);
+        leaves = record {
+          answer = refl;
+          lightest = p .lightest ∙ ap (λ v. treeList v (lentOf l s w) Lightest l) i;
+          shortest = p .shortest ∙ ap (λ v. treeList v (lentOf l s w) Shortest s) i;
+          between = p .between ∙ ap (λ v. treeList v (lentOf l s w) Between w) i;
+        };
+        says = f ∙ ap (λ (v : Plan). built (v .lightest) (v .shortest) (v .between) (v .laid)) u;
+      }
+  of-built n next i (refused r) f g = absurd (let k : _≡_ {A = ℕ} 0 1 = cc in omega arith)
+
+  of-read : (g : Got Net) → recordRead bytes ≡ g → saysPlanned (planOf g (lentOf l s w)) ≡ result q → PlannedNet bytes l s w l′ s′ w′ q
+  of-read (got n next) i f = of-built n next i (buildOf every n (length (n .segments)) (lentOf l s w)) refl f
+  of-read (unread r) i f = absurd (let k : _≡_ {A = ℕ} 0 1 = cc in omega arith)
+
+  pub planned-net : PlannedNet bytes l s w l′ s′ w′ q
+  planned-net = of-read (recordRead bytes) refl (ap saysPlanned (sym (p .answer)) ∙ e)

@@ -3,7 +3,7 @@
 -- One record for each entry, for whatever is lent to it. `by-the-rules` and `no-other`: document 01's rules, one for each number, give one answer for every
 -- input. `refuses`: where they refuse, every outcome that the entry's contract allows is that refusal, and what was lent is as it was. `only-then`: an outcome is
 -- a refusal only where they refuse. The rules stand in net/specs/Rules, records/specs/Rules and drawn/specs/Rules. What an answer says, its number and values,
--- is `saysOf`, `marginSaysOf`, `saysBy` and `saysWritten`.
+-- is `saysOf`, `marginSaysOf`, `saysBy`, `saysWritten` and `saysPlanned`.
 use mathlib.Core.Path.{_≡_}
 use mathlib.Core.Logic.{_↔_}
 use mathlib.Core.List.{List}
@@ -23,7 +23,7 @@ use Rattle.lent.specs.Lists.{netOn}
 use Rattle.looms.specs.Answers.{lentOf, Leaves, saysOf, marginAnswerOf, marginSaysOf}
 use Rattle.looms.specs.declared.Answer.{Answer}
 use Rattle.looms.specs.declared.MarginAnswer.{MarginAnswer}
-use Rattle.records.specs.Numbers.{Bytes, Got, refused as unread}
+use Rattle.records.specs.Numbers.{Bytes, Got, got, refused as unread}
 use Rattle.records.specs.Reading.{netRead}
 use Rattle.records.specs.Writing.{writeRefusal}
 use Rattle.records.specs.Rules.{ReadRule, WriteRule}
@@ -31,6 +31,9 @@ use Rattle.records.specs.Answers.{refusal-of, saysBy, saysWritten, Writes}
 use Rattle.records.specs.declared.reading.ReadAnswer.{ReadAnswer}
 use Rattle.records.specs.declared.writing.WriteAnswer.{WriteAnswer}
 use Rattle.droverboot.specs.Reading.{Reads}
+use Rattle.plans.specs.Asked.{recordRead, Plans}
+use Rattle.plans.specs.Says.{saysPlanned}
+use Rattle.plans.specs.declared.PlanAnswer.{PlanAnswer}
 use Rattle.drawn.specs.Drawn.{drawnOf}
 use Rattle.drawn.specs.Says.{Says, saysOf as drawnSays}
 use Rattle.drawn.specs.Rules.{Answers}
@@ -71,6 +74,13 @@ pub record WriteRefuses (n : Net) (m : ℕ) (room : List ℕ) : Type 0 where
   pub refuses : {a : WriteAnswer} {x : List ℕ} → Writes n m room a x → (r : Refusal) → writeRefusal n m (length room) ≡ some r → (saysWritten a ≡ refusal-of r) × (x ≡ room)
   pub only-then : {a : WriteAnswer} {x : List ℕ} → Writes n m room a x → (r : Refusal) → saysWritten a ≡ refusal-of r → writeRefusal n m (length room) ≡ some r
 
+-- PLANNING a record, with three lists that hold l, s and w: reading refuses it, or building the net that was read
+pub record PlanRefuses (bytes l s w : List ℕ) : Type 0 where
+  pub reading-refuses : {a : PlanAnswer} {l′ s′ w′ : List ℕ} → Plans bytes l s w a l′ s′ w′
+      → (r : Refusal) → recordRead bytes ≡ unread r → (saysPlanned a ≡ refusal-of r) × (l′ ≡ l) × (s′ ≡ s) × (w′ ≡ w)
+  pub building-refuses : {a : PlanAnswer} {l′ s′ w′ : List ℕ} → Plans bytes l s w a l′ s′ w′ → (n : Net) (next : ℕ) → recordRead bytes ≡ got n next
+      → (r : Refusal) → buildRefusal every n (length (n .segments)) (lentOf l s w) ≡ some r → (saysPlanned a ≡ refusal-of r) × (l′ ≡ l) × (s′ ≡ s) × (w′ ≡ w)
+
 -- A DRAWN RUN; what an answer says is a length or a refusal with number and place
 pub record DrawnRefuses (run : Run) : Type 0 where
   pub by-the-rules : {a : Drawn} → a ≡ drawnOf run → Answers run (drawnSays a)
@@ -82,4 +92,5 @@ pub record Demand1 : Type 0 where
   pub margin : (h : Head) (segments : List Segment) (t : Tree) (post : ℕ) → MarginRefuses (netOn h segments) (length segments) t post
   pub read : (bytes : List ℕ) (l : List Segment) → ReadRefuses bytes l
   pub write : (h : Head) (segments : List Segment) (room : List ℕ) → WriteRefuses (netOn h segments) (length segments) room
+  pub plan : (bytes l s w : List ℕ) → PlanRefuses bytes l s w
   pub drawn : (run : Run) → DrawnRefuses run

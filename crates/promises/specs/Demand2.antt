@@ -2,7 +2,7 @@
 -- ways without loss, one record for one net. A drawn length becomes the whole number of sixteenths that it is."
 -- The definitions of net/specs compute the trees; `TreesAsStated` is what they come to in document 01's own words, over chains and routes. The rest is said of the
 -- outcomes that the entries' contracts allow: what building leaves in the lent lists, a margin that is given, what is read and written, a drawn run's length. What an answer
--- says, its number and values, is `saysOf`, `marginSaysOf`, `saysBy`, `saysWritten` and, of a run, `drawnSays`.
+-- says, its number and values, is `saysOf`, `saysPlanned`, `marginSaysOf`, `saysBy`, `saysWritten` and, of a run, `drawnSays`.
 use mathlib.Core.Path.{_≡_}
 use mathlib.Core.Logic.{_↔_}
 use mathlib.Core.Bool.{false}
@@ -26,12 +26,15 @@ use Rattle.lent.specs.Lists.{netOn}
 use Rattle.looms.specs.Answers.{Leaves, saysOf, marginAnswerOf, marginSaysOf}
 use Rattle.looms.specs.declared.Answer.{Answer}
 use Rattle.looms.specs.declared.MarginAnswer.{MarginAnswer}
-use Rattle.records.specs.Numbers.{Bytes}
+use Rattle.records.specs.Numbers.{Bytes, got}
 use Rattle.records.specs.Writing.{onto}
 use Rattle.records.specs.Answers.{result, saysBy, saysWritten, Writes}
 use Rattle.records.specs.declared.reading.ReadAnswer.{ReadAnswer}
 use Rattle.records.specs.declared.writing.WriteAnswer.{WriteAnswer}
 use Rattle.droverboot.specs.Reading.{Reads}
+use Rattle.plans.specs.Asked.{recordRead, Plans}
+use Rattle.plans.specs.Says.{Plan, saysPlanned}
+use Rattle.plans.specs.declared.PlanAnswer.{PlanAnswer}
 use Rattle.drawn.specs.Drawn.{drawnOf}
 use Rattle.drawn.specs.Says.{sixteenths, saysOf as drawnSays}
 use Rattle.drawn.specs.Rules.{Long, BothLong}
@@ -75,6 +78,15 @@ pub record BuiltAsStated (n : Net) (l s w l′ s′ w′ : List ℕ) (lightest s
   pub measures-between : Measures n (take (n .head .posts) w′) between
   pub laid-is : laid ≡ length (laidOf every n)
 
+-- A RECORD THAT WAS PLANNED: it reads as a net, of which the same holds, and the plan q has its head and the number of its segments
+pub record PlannedAsStated (bytes l s w l′ s′ w′ : List ℕ) (q : Plan) : Type 0 where
+  pub n : Net
+  pub next : ℕ
+  pub read-is : recordRead bytes ≡ got n next
+  pub head-is : q .head ≡ n .head
+  pub count-is : q .count ≡ length (n .segments)
+  pub built-is : BuiltAsStated n l s w l′ s′ w′ (q .lightest) (q .shortest) (q .between) (q .laid)
+
 -- A MARGIN z that is given for a post in the named tree: "It is signed, and below zero exactly when the post breaks the limit. For the source it is 0."
 pub record MarginAsStated (n : Net) (t : Tree) (post : ℕ) (z : ℤ) : Type 0 where
   -- "(p + q) × D minus q × path in the tree"
@@ -114,6 +126,8 @@ pub record DrawnAsStated : Type 0 where
 pub record Demand2 : Type 0 where
   pub build : (h : Head) (segments : List Segment) (l s w : List ℕ) {a : Answer} {l′ s′ w′ : List ℕ} {x y z : Measured} {k : ℕ}
       → Leaves (netOn h segments) (length segments) l s w a l′ s′ w′ → saysOf a ≡ built x y z k → BuiltAsStated (netOn h segments) l s w l′ s′ w′ x y z k
+  pub plan : (bytes l s w : List ℕ) {a : PlanAnswer} {l′ s′ w′ : List ℕ} {q : Plan} → Plans bytes l s w a l′ s′ w′ → saysPlanned a ≡ result q
+      → PlannedAsStated bytes l s w l′ s′ w′ q
   pub margin : (h : Head) (segments : List Segment) (t : Tree) (post : ℕ) {a : MarginAnswer} {z : ℤ}
       → a ≡ marginAnswerOf (marginOf every (netOn h segments) (length segments) t post) → marginSaysOf a ≡ B.MarginAnswer.margin z → MarginAsStated (netOn h segments) t post z
   pub records : RecordsBothWays

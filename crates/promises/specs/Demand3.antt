@@ -14,6 +14,11 @@ use Rattle.net.specs.Building.{Measured, built, lightestOf, leastLengthsOf, lai
 use Rattle.lent.specs.Lists.{netOn}
 use Rattle.looms.specs.Answers.{Leaves, saysOf}
 use Rattle.looms.specs.declared.Answer.{Answer}
+use Rattle.records.specs.Numbers.{got}
+use Rattle.records.specs.Answers.{result}
+use Rattle.plans.specs.Asked.{recordRead, Plans}
+use Rattle.plans.specs.Says.{Plan, saysPlanned}
+use Rattle.plans.specs.declared.PlanAnswer.{PlanAnswer}
 
 -- of a net that building takes, and of its third tree t
 pub record Bounds (n : Net) (t : List ℕ) : Type 0 where
@@ -46,3 +51,6 @@ pub record Demand3 : Type 0 where
   pub build : (h : Head) (segments : List Segment) (l s w : List ℕ) {a : Answer} {l′ s′ w′ : List ℕ} {x y z : Measured} {k : ℕ}
       → Leaves (netOn h segments) (length segments) l s w a l′ s′ w′ → saysOf a ≡ built x y z k
       → Bounds (netOn h segments) (take (h .posts) w′) × LengthWithin (netOn h segments) (z .length)
+  -- and of a record that was planned
+  pub plan : (bytes l s w : List ℕ) {a : PlanAnswer} {l′ s′ w′ : List ℕ} {q : Plan} → Plans bytes l s w a l′ s′ w′ → saysPlanned a ≡ result q
+      → {n : Net} {next : ℕ} → recordRead bytes ≡ got n next → Bounds n (take (n .head .posts) w′) × LengthWithin n (q .between .length)
