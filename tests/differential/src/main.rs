@@ -49,7 +49,7 @@ const USAGE: &str =
     "usage: differential PROGRAM | --library | --stand-in [--cases N] [--threads N] [--seed N]";
 
 /// Runs of a program when no number is given: each costs about a millisecond.
-const PROGRAM_CASES: u64 = 20_000;
+const PROGRAM_CASES: u64 = 40_000;
 /// Cases of a library when no number is given: as many nets as damaged records.
 const LIBRARY_CASES: u64 = 40_000;
 
