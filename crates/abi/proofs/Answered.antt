@@ -8,8 +8,8 @@ use Rattle.net.specs.declared.Head.{Head}
 use Rattle.net.specs.declared.Refusal.{Refusal}
 use Rattle.net.specs.declared.Tree.{Tree}
 use Rattle.looms.specs.declared.Measured.{Measured}
-use Rattle.looms.specs.declared.MarginAnswer.{MarginAnswer}
-use Rattle.looms.specs.declared.MarginAnswer.the-variants.{Margin, Refused as Unmeasured}
+use Rattle.margins.specs.declared.MarginAnswer.{MarginAnswer}
+use Rattle.margins.specs.declared.MarginAnswer.the-variants.{Margin, Refused as Unmeasured}
 use Rattle.records.specs.declared.writing.WriteAnswer.{WriteAnswer}
 use Rattle.records.specs.declared.writing.WriteAnswer.the-variants.{Written, Refused as Unwritten}
 use Rattle.plans.specs.Asked.{Plans, Rewrites, marginRead}

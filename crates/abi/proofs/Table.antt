@@ -15,8 +15,8 @@ use Rattle.net.specs.declared.Head.{Head}
 use Rattle.net.specs.declared.Refusal.{Refusal}
 use Rattle.net.specs.declared.Tree.{Tree}
 use Rattle.net.specs.declared.Checked.the-variants.{Refused as Unsound}
-use Rattle.looms.specs.Answers.{marginAnswerOf}
-use Rattle.looms.specs.declared.MarginAnswer.the-variants.{Refused as Unmeasured}
+use Rattle.margins.specs.Answers.{marginAnswerOf}
+use Rattle.margins.specs.declared.MarginAnswer.the-variants.{Refused as Unmeasured}
 use Rattle.records.specs.Numbers.{Bytes, Got, got, refused}
 use Rattle.net.specs.Rules.{BuildRule, MarginRule}
 use Rattle.net.proofs.Faults.{head-range, segment-range, faulty-range}

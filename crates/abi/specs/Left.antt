@@ -7,8 +7,8 @@ use lib.IntN.{ℤ}
 use lib.ListN.{length, take, drop}
 use Rattle.net.specs.declared.Tree.the-variants.{Lightest, Shortest, Between}
 use Rattle.looms.specs.Answers.{lentOf}
-use Rattle.looms.specs.declared.MarginAnswer.{MarginAnswer}
-use Rattle.looms.specs.declared.MarginAnswer.the-variants.{Margin, Refused as Unmeasured}
+use Rattle.margins.specs.declared.MarginAnswer.{MarginAnswer}
+use Rattle.margins.specs.declared.MarginAnswer.the-variants.{Margin, Refused as Unmeasured}
 use Rattle.plans.specs.Asked.{recordRead, planOf, treeList, rewriteOf, roomOf, marginRead}
 use Rattle.plans.specs.declared.PlanAnswer.{PlanAnswer}
 use Rattle.plans.specs.declared.PlanAnswer.the-variants.{Planned, Refused as Unplanned}

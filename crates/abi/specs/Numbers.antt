@@ -1,4 +1,4 @@
--- How an answer stands in one number of 64 bits, for each case of the enums of `plans`, `records`, `looms` and `drawn`; how a tree and a drawn run are named by
+-- How an answer stands in one number of 64 bits, for each case of the enums of `plans`, `records`, `margins` and `drawn`; how a tree and a drawn run are named by
 -- numbers. A refusal is number × 2^32 + place; where the answer may be a length, 2^63 is added to it.
 use mathlib.Core.Bool.{cond}
 use Prim.Native.Nat.{ℕ, _+_, _*_, _^_}
@@ -13,8 +13,8 @@ use Rattle.drawn.specs.declared.Run.{Run}
 use Rattle.drawn.specs.declared.Run.the-variants.{Straight, Corner}
 use Rattle.drawn.specs.declared.Answer.{Answer}
 use Rattle.drawn.specs.declared.Answer.the-variants.{Length, Refused as Undrawn}
-use Rattle.looms.specs.declared.MarginAnswer.{MarginAnswer}
-use Rattle.looms.specs.declared.MarginAnswer.the-variants.{Margin, Refused as Unmeasured}
+use Rattle.margins.specs.declared.MarginAnswer.{MarginAnswer}
+use Rattle.margins.specs.declared.MarginAnswer.the-variants.{Margin, Refused as Unmeasured}
 use Rattle.records.specs.declared.writing.WriteAnswer.{WriteAnswer}
 use Rattle.records.specs.declared.writing.WriteAnswer.the-variants.{Written, Refused as Unwritten}
 use Rattle.plans.specs.declared.PlanAnswer.{PlanAnswer}

@@ -1,8 +1,8 @@
 // The library for C and Rust: functions on numbers and lent lists, each list a pointer and a length. A refusal is number × 2^32 + place. After one nothing
 // that is lent is changed, and no function asks anything of what is lent. Thin over `plans` and `drawn`.
 use drawn::Run;
-use looms::MarginAnswer;
 use looms::Measured;
+use margins::MarginAnswer;
 use net::Checked;
 use net::Head;
 use net::Refusal;

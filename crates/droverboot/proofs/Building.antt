@@ -1,5 +1,5 @@
 -- What building and margin over an array promise, taken to the lent list: the last facts of the walks of `build` and `margin`. Two outcomes that a contract
--- over a lent list allows are equal (`build-one`, `margin-one` of looms, at the net of the list).
+-- over a lent list allows are equal (`build-one` of looms, `margin-one` of margins, at the net of the list).
 use mathlib.Core.Path.{_≡_, subst, ap, _∙_}
 use mathlib.Core.List.{List}
 use Prim.Native.Nat.{ℕ}
@@ -11,9 +11,10 @@ use Rattle.net.specs.declared.Head.{Head}
 use Rattle.net.specs.declared.Tree.the-variants.{Lightest, Shortest, Between}
 use Rattle.lent.specs.Lists.{padded, netOn}
 use Rattle.lent.proofs.Nets.{netIn, build-on-list, after-build-on-list, margin-on-list}
-use Rattle.looms.specs.Answers.{answerOf, lentOf, Leaves, marginAnswerOf}
+use Rattle.looms.specs.Answers.{answerOf, lentOf, Leaves}
+use Rattle.margins.specs.Answers.{marginAnswerOf}
 use Rattle.looms.specs.declared.Answer.{Answer}
-use Rattle.looms.specs.declared.MarginAnswer.{MarginAnswer}
+use Rattle.margins.specs.declared.MarginAnswer.{MarginAnswer}
 use Rattle.net.specs.declared.Tree.{Tree}
 
 pub builds-list : (h : Head) (l w : List Segment) (x y z x′ y′ z′ : List ℕ) (r : Answer) → w ≡ padded l

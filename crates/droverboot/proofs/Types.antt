@@ -3,8 +3,8 @@ use Rattle.lent.proofs.Params.{Data, number, struct, enum}
 use mir.Syntax.{w32}
 use Rattle.net.proofs.Tree as Tree
 use Rattle.net.proofs.Tree.Laws as Tree′
-use Rattle.looms.proofs.MarginAnswer as MarginAnswer
-use Rattle.looms.proofs.MarginAnswer.Laws as MarginAnswer′
+use Rattle.margins.proofs.MarginAnswer as MarginAnswer
+use Rattle.margins.proofs.MarginAnswer.Laws as MarginAnswer′
 use Rattle.looms.proofs.Answer as Answer
 use Rattle.looms.proofs.Answer.Laws as Answer′
 use Rattle.records.proofs.writing.WriteAnswer as WriteAnswer

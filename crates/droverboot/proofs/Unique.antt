@@ -1,5 +1,5 @@
 -- TWO OUTCOMES that the contract of an entry over lent lists allows are equal: the answers, and what every lent list holds afterwards. Building, margin and
--- writing promise what looms and records promise, at the net of the lent list, so these cite the laws there.
+-- writing promise what looms, margins and records promise, at the net of the lent list, so these cite the laws there.
 use mathlib.Core.Path.{_≡_, sym, _∙_}
 use mathlib.Core.List.{List}
 use Prim.Native.Nat.{ℕ}
@@ -10,11 +10,13 @@ use Rattle.net.specs.declared.Segment.{Segment}
 use Rattle.net.specs.declared.Head.{Head}
 use Rattle.net.specs.declared.Tree.{Tree}
 use Rattle.lent.specs.Lists.{netOn}
-use Rattle.looms.specs.Answers.{Leaves, marginAnswerOf}
+use Rattle.looms.specs.Answers.{Leaves}
+use Rattle.margins.specs.Answers.{marginAnswerOf}
 use Rattle.looms.specs.declared.Answer.{Answer}
-use Rattle.looms.specs.declared.MarginAnswer.{MarginAnswer}
+use Rattle.margins.specs.declared.MarginAnswer.{MarginAnswer}
 use Rattle.looms.proofs.Unique.{SameOutcome}
 use Rattle.looms.proofs.Unique as looms
+use Rattle.margins.proofs.Unique as margins
 use Rattle.records.specs.Answers.{Writes}
 use Rattle.records.specs.declared.writing.WriteAnswer.{WriteAnswer}
 use Rattle.records.specs.declared.reading.ReadAnswer.{ReadAnswer}
@@ -28,7 +30,7 @@ module _ (h : Head) (segments : List Segment) where
 
   pub margin-one : (t : Tree) (post : ℕ) {x y : MarginAnswer} → x ≡ marginAnswerOf (marginOf every (netOn h segments) (length segments) t post)
       → y ≡ marginAnswerOf (marginOf every (netOn h segments) (length segments) t post) → x ≡ y
-  margin-one = looms.margin-one (netOn h segments) (length segments)
+  margin-one = margins.margin-one (netOn h segments) (length segments)
 
   pub write-one : (room : List ℕ) {r r₂ : WriteAnswer} {x x₂ : List ℕ} → Writes (netOn h segments) (length segments) room r x
       → Writes (netOn h segments) (length segments) room r₂ x₂ → (r ≡ r₂) × (x ≡ x₂)

@@ -4,7 +4,7 @@
 use lent::gather;
 use lent::spread;
 use looms::Answer;
-use looms::MarginAnswer;
+use margins::MarginAnswer;
 use net::Head;
 use net::MOST_SEGMENTS;
 use net::Segment;
@@ -19,7 +19,8 @@ ghost use lib.ListN.{length};
 ghost use Rattle.lent.specs.Lists.{netOn};
 ghost use Rattle.net.specs.Net.{every};
 ghost use Rattle.net.specs.Building.{marginOf};
-ghost use Rattle.looms.specs.Answers.{Leaves, marginAnswerOf};
+ghost use Rattle.looms.specs.Answers.{Leaves};
+ghost use Rattle.margins.specs.Answers.{marginAnswerOf};
 ghost use Rattle.records.specs.Answers.{Writes};
 ghost use Rattle.droverboot.specs.Reading.{countOf, Reads};
 
@@ -47,7 +48,7 @@ pub fn build(
 pub fn margin(head: Head, segments: &[Segment], tree: Tree, post: u32) -> MarginAnswer
     ensures { λ r. ⌜ r ≡ marginAnswerOf (marginOf every (netOn head (now (segments .entry))) (length (now (segments .entry))) tree post) ⌝ }
 {
-    looms::margin(head, gather(segments), segments.len(), tree, post)
+    margins::margin(head, gather(segments), segments.len(), tree, post)
 }
 
 // Writing: the record goes to the front of the room, and bytes beyond it are unchanged; after a refusal the whole room is.

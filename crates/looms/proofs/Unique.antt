@@ -1,19 +1,16 @@
--- TWO OUTCOMES that a contract allows are equal, for building (`build-one`) and margin (`margin-one`); and an answer of the code says neither more nor less
--- than one of document 01 (`says-answer`, `answer-says`, and the same of a margin).
+-- TWO OUTCOMES that the contract of building allows are equal (`build-one`); and an answer of the code says neither more nor less than one of document 01
+-- (`says-answer`, `answer-says`).
 use mathlib.Core.Path.{_≡_, refl, sym, _∙_}
 use mathlib.Core.List.{List}
 use Prim.Native.Nat.{ℕ}
 use Rattle.net.specs.Net.{Net, every}
-use Rattle.net.specs.Building.{BuildAnswer, buildOf, marginOf}
+use Rattle.net.specs.Building.{BuildAnswer, buildOf}
 use Rattle.net.specs.Building as B
-use Rattle.net.specs.declared.Tree.{Tree}
-use Rattle.looms.specs.Answers.{answerOf, saysOf, marginAnswerOf, marginSaysOf, Leaves, lentOf}
+use Rattle.looms.specs.Answers.{answerOf, saysOf, Leaves, lentOf}
 use Rattle.looms.specs.declared.Answer.{Answer}
 use Rattle.looms.specs.declared.Answer.the-variants.{Built, Refused}
-use Rattle.looms.specs.declared.MarginAnswer.{MarginAnswer}
-use Rattle.looms.specs.declared.MarginAnswer.the-variants.{Margin, Refused as Unmeasured}
 
--- building: the answer and the three lists
+-- the answer and the three lists
 pub record SameOutcome (r r₂ : Answer) (l l₂ s s₂ w w₂ : List ℕ) : Type 0 where
   pub answers : r ≡ r₂
   pub lightest : l ≡ l₂
@@ -29,9 +26,6 @@ build-one n m l s w x y =
       between = x .between ∙ sym (y .between);
     }
 
-pub margin-one : (n : Net) (m : ℕ) (t : Tree) (post : ℕ) {x y : MarginAnswer} → x ≡ marginAnswerOf (marginOf every n m t post) → y ≡ marginAnswerOf (marginOf every n m t post) → x ≡ y
-margin-one n m t post p q = p ∙ sym q
-
 -- WHAT AN ANSWER SAYS
 pub says-answer : (x : BuildAnswer) → saysOf (answerOf x) ≡ x
 says-answer (B.BuildAnswer.built l s b k) = refl
@@ -41,17 +35,6 @@ pub answer-says : (x : Answer) → answerOf (saysOf x) ≡ x
 answer-says (Built l s b k) = refl
 answer-says (Refused r) = refl
 
-pub says-margin-answer : (x : B.MarginAnswer) → marginSaysOf (marginAnswerOf x) ≡ x
-says-margin-answer (B.MarginAnswer.margin z) = refl
-says-margin-answer (B.MarginAnswer.refused r) = refl
-
-pub margin-answer-says : (x : MarginAnswer) → marginAnswerOf (marginSaysOf x) ≡ x
-margin-answer-says (Margin z) = refl
-margin-answer-says (Unmeasured r) = refl
-
--- so what building says is net's own answer, and a margin's likewise
+-- so what building says is net's own answer
 pub build-says : (n : Net) (m : ℕ) (l s w : List ℕ) {r : Answer} → r ≡ answerOf (buildOf every n m (lentOf l s w)) → saysOf r ≡ buildOf every n m (lentOf l s w)
 build-says n m l s w e = rw e (says-answer (buildOf every n m (lentOf l s w)))
-
-pub margin-says : (n : Net) (m : ℕ) (t : Tree) (post : ℕ) {x : MarginAnswer} → x ≡ marginAnswerOf (marginOf every n m t post) → marginSaysOf x ≡ marginOf every n m t post
-margin-says n m t post e = rw e (says-margin-answer (marginOf every n m t post))

@@ -1,39 +1,38 @@
 -- The ways out of building: refused by 1 to 7, by 8, by 9, or built. Each says what is left of the answer and of the three lists.
-use mathlib.Core.Path.{_≡_, refl, sym, _∙_}
+use mathlib.Core.Path.{_≡_, sym, _∙_}
 use mathlib.Core.List.{List, _++_}
 use mathlib.Core.Option.{Option, none, some}
 use Prim.Native.Nat.{ℕ, _≤_, _<_}
 use native.Mathlib.Omega.{arith}
 use borrow.Author.Tests.{le-ltb}
 use lib.ListN.{length, drop, take}
-use mathlib.Core.Bool.{true, false, _||_}
+use lib.Seq.{take-all}
+use mathlib.Core.Bool.{false, _||_}
 use lib.Dec.{ltb}
-use Rattle.net.specs.Net.{Net, every, segmentsOf, netOf, lengthAt, longest}
+use Rattle.net.specs.Net.{Net, every, segmentsOf, netOf}
 use Rattle.net.specs.Refusals.{Lent, refusal, first, headLines, netLines, lentLines, joinedLines, checkedOf, checkOf}
 use Rattle.net.specs.Rules.{TooShort, BuildRule}
 use Rattle.net.specs.Rules as R
-use Rattle.net.specs.Trees.{leastLengths, joined}
+use Rattle.net.specs.Trees.{leastLengths, whole, radius}
 use Rattle.net.specs.Building.{lightestOf, shortestOf, betweenOf, laidOf, treeOf, joinedToSource, buildRefusal, measured, buildAnswer, buildOf, listAfter, afterBuild}
 use Rattle.net.specs.declared.Head.{Head}
 use Rattle.net.specs.declared.Segment.{Segment}
 use Rattle.net.specs.declared.Refusal.{Refusal}
 use Rattle.net.specs.declared.Checked.{Checked}
-use Rattle.net.specs.declared.Checked.the-variants.{Sound, Refused as Unsound}
+use Rattle.net.specs.declared.Checked.the-variants.{Refused as Unsound}
 use Rattle.net.proofs.Tables.{FirstOf, below, end, first-only, first-is, some-append, none-append}
 use Rattle.net.proofs.Faults.{sound-first}
 use Rattle.net.proofs.Refusals.{build-only}
-use Rattle.net.proofs.Checks.{said-refused, check-sound, check-faulty}
+use Rattle.net.proofs.Checks.{said-refused, check-faulty}
 use Rattle.shortest.specs.Lists.{note}
 use Rattle.shortest.specs.Notes.{LowestApart}
 use Rattle.net.proofs.Segments.{length-segments}
-use Rattle.shortest.proofs.Apart.{apart-none, apart-some}
-use Rattle.shortest.proofs.Measures.{short-segments}
-use Rattle.looms.specs.Ready.{netAt, Ready}
+use Rattle.trees.specs.Ready.{netAt, Ready}
+use Rattle.trees.proofs.Joined.{table-apart, table-joined}
 use Rattle.looms.specs.Answers.{measuredIn, lentOf, Leaves, BuiltAll}
 use Rattle.looms.specs.declared.Measured.{Measured}
 use Rattle.looms.specs.declared.Answer.{Answer}
 use Rattle.looms.specs.declared.Answer.the-variants.{Built, Refused}
-use Rattle.looms.proofs.Ready.{ready-inside, ready-source, ready-posts, ready-short}
 
 module _ (n : Net) (m : ℕ) (l s w : List ℕ) where
   -- "after a refusal .. what it held before"
@@ -56,36 +55,6 @@ unfolding lentLines
 lent-none posts lent h k g =
     let e : (ltb (lent .lightest) posts || ltb (lent .shortest) posts || ltb (lent .between) posts) ≡ false = rw (le-ltb _ _ h, le-ltb _ _ k, le-ltb _ _ g) in
     below e end
-
--- none of 1 to 7
-pub ready-sound : (head : Head) (a b lengths : List ℕ) {v : Checked} → length b ≡ length a → length lengths ≡ length a → v ≡ checkOf head (segmentsOf a b lengths) → v ≡ Sound → Ready head a b lengths
-ready-sound head a b lengths h k e f = record { b-level = h; lengths-level = k; sound = check-sound head (segmentsOf a b lengths) .0 (sym e ∙ f) }
-
--- 9: d are the least lengths, z says which is the lowest post without one
-module _ {head : Head} {a b lengths : List ℕ} (r : Ready head a b lengths) {posts source apart : ℕ} (posts-is : posts ≡ head .posts) (source-is : source ≡ head .source) {d : List ℕ} (rest : List ℕ)
-    (e : d ≡ leastLengths (segmentsOf a b lengths) every posts source ++ rest) (z : LowestApart posts (note d) apart) where
-  short-all : (i : ℕ) → i < length (segmentsOf a b lengths) → every i ≡ true → lengthAt (segmentsOf a b lengths) i ≤ longest
-  short-all i p q = short-segments a b lengths (r .b-level) (r .lengths-level) (ready-short r) i
-
-  d-is : d ≡ leastLengths (segmentsOf a b lengths) every (head .posts) (head .source) ++ rest
-  d-is = e ∙ rw (posts-is, source-is)
-
-  z-is : LowestApart (head .posts) (note d) apart
-  z-is = rw posts-is at z
-
-  joined-same : (v : ℕ) → joinedToSource every (netAt head a b lengths) v ≡ joined (segmentsOf a b lengths) (head .posts) every (head .source) v
-  unfolding joinedToSource
-  joined-same v = refl
-
-  -- "lowest such post"
-  pub table-apart : apart < posts → first (joinedLines (head .posts) (joinedToSource every (netAt head a b lengths))) ≡ some (refusal 9 apart)
-  table-apart p =
-      apart-some (segmentsOf a b lengths) every (head .posts) (ready-inside r) (head .source) (ready-source r) (ready-posts r) short-all d rest d-is apart z-is (joinedToSource every (netAt head a b lengths)) joined-same (omega arith)
-
-  -- every post is joined
-  pub table-joined : posts ≤ apart → first (joinedLines (head .posts) (joinedToSource every (netAt head a b lengths))) ≡ none
-  table-joined p =
-      apart-none (segmentsOf a b lengths) every (head .posts) (ready-inside r) (head .source) (ready-source r) (ready-posts r) short-all d rest d-is apart z-is (joinedToSource every (netAt head a b lengths)) joined-same (omega arith)
 
 -- three lists side by side
 module _ (head : Head) (a b lengths l s w : List ℕ) where
@@ -117,6 +86,16 @@ module _ (head : Head) (a b lengths l s w : List ℕ) where
         pub leaves-joined : posts ≤ apart → {x : Answer} {l′ s′ w′ : List ℕ} → BuiltAll (netAt head a b lengths) l s w x l′ s′ w′
             → Leaves (netAt head a b lengths) (length (segmentsOf a b lengths)) l s w x l′ s′ w′
         leaves-joined p y = leaves-built _ _ l s w (joined-left (table-joined r posts-is source-is rest e z p)) y
+
+-- length and radius of a tree that has an entry for each post; posts is the head's as an index
+pub measured-at : {head : Head} {a b lengths : List ℕ} → Ready head a b lengths → {posts : ℕ} → posts ≡ head .posts → (t : List ℕ) → length t ≡ head .posts → {x y : ℕ}
+    → ((a b : List ℕ) → length a ≡ length lengths → length b ≡ length lengths → x ≡ whole (segmentsOf a b lengths) posts (take posts t))
+    → y ≡ radius (segmentsOf a b lengths) posts (take posts t) → _≡_ {A = Measured} (record { length = x; radius = y }) (measuredIn (netAt head a b lengths) t)
+measured-at {head} {a} {b} {lengths} r {posts} posts-is t k {x} {y} f e =
+    let z : take posts t ≡ t = take-all posts t (omega arith) in
+    let ex : x ≡ whole (segmentsOf a b lengths) (head .posts) t = f a b (sym (r .lengths-level)) (r .b-level ∙ sym (r .lengths-level)) ∙ rw (z, posts-is) in
+    let ey : y ≡ radius (segmentsOf a b lengths) (head .posts) t = e ∙ rw (z, posts-is) in
+    rw (ex, ey)
 
 -- an answer from three measures
 pub built-of : {x x′ y y′ z z′ : Measured} {laid : ℕ} → x ≡ x′ → y ≡ y′ → z ≡ z′ → Built x y z laid ≡ Built x′ y′ z′ laid

@@ -1,4 +1,4 @@
--- What an answer of building or margin says in document 01's terms, for each case of the code's enums.
+-- What an answer of building says in document 01's terms, for each case of the code's enum.
 use mathlib.Core.Path.{_≡_}
 use mathlib.Core.Option.{none}
 use mathlib.Core.List.{List}
@@ -13,8 +13,6 @@ use Rattle.net.specs.declared.Tree.the-variants.{Lightest, Shortest, Between}
 use Rattle.looms.specs.declared.Measured.{Measured}
 use Rattle.looms.specs.declared.Answer.{Answer}
 use Rattle.looms.specs.declared.Answer.the-variants.{Built, Refused}
-use Rattle.looms.specs.declared.MarginAnswer.{MarginAnswer}
-use Rattle.looms.specs.declared.MarginAnswer.the-variants.{Margin, Refused as Unmeasured}
 
 -- length and radius
 abbrev pub measuredOf : B.Measured → Measured
@@ -36,15 +34,6 @@ measuredSays m = record { length = m .length; radius = m .radius }
 abbrev pub saysOf : Answer → BuildAnswer
 saysOf (Built l s b k) = built (measuredSays l) (measuredSays s) (measuredSays b) k
 saysOf (Refused r) = refused r
-
--- the same of a margin
-abbrev pub marginAnswerOf : B.MarginAnswer → MarginAnswer
-marginAnswerOf (B.MarginAnswer.margin z) = Margin z
-marginAnswerOf (B.MarginAnswer.refused r) = Unmeasured r
-
-abbrev pub marginSaysOf : MarginAnswer → B.MarginAnswer
-marginSaysOf (Margin z) = B.MarginAnswer.margin z
-marginSaysOf (Unmeasured r) = B.MarginAnswer.refused r
 
 -- how many entries three lists have
 abbrev pub lentOf : List ℕ → List ℕ → List ℕ → Lent

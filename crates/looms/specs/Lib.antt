@@ -1,3 +1,2 @@
--- What the contracts of building and margin cite. Definitions only.
+-- What the contracts of building cite. Definitions only.
 pub mod Answers
-pub mod Ready

@@ -13,12 +13,13 @@ use Rattle.net.specs.declared.Segment.{Segment}
 use Rattle.net.specs.declared.Refusal.{Refusal}
 use Rattle.net.specs.declared.Tree.{Tree}
 use Rattle.net.specs.declared.Checked.the-variants.{Sound, Refused as Unsound}
-use Rattle.looms.specs.Answers.{answerOf, marginAnswerOf, lentOf, Leaves}
+use Rattle.looms.specs.Answers.{answerOf, lentOf, Leaves}
+use Rattle.margins.specs.Answers.{marginAnswerOf}
 use Rattle.looms.specs.declared.Measured.{Measured}
 use Rattle.looms.specs.declared.Answer.{Answer}
 use Rattle.looms.specs.declared.Answer.the-variants.{Built, Refused as Unbuilt}
-use Rattle.looms.specs.declared.MarginAnswer.{MarginAnswer}
-use Rattle.looms.specs.declared.MarginAnswer.the-variants.{Refused as Unmeasured}
+use Rattle.margins.specs.declared.MarginAnswer.{MarginAnswer}
+use Rattle.margins.specs.declared.MarginAnswer.the-variants.{Refused as Unmeasured}
 use Rattle.records.specs.Numbers.{Got, got, refused as unread}
 use Rattle.records.specs.Answers.{padded, readArrayOf, Writes}
 use Rattle.records.specs.declared.reading.ReadAnswer.the-variants.{Read, Refused as ReadRefused}

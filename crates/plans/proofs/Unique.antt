@@ -11,9 +11,10 @@ use Rattle.net.specs.Building.{BuildAnswer, built, refused, buildOf}
 use Rattle.net.specs.declared.Head.{Head}
 use Rattle.net.specs.declared.Tree.{Tree}
 use Rattle.net.specs.declared.Checked.{Checked}
-use Rattle.looms.specs.Answers.{lentOf, marginSaysOf}
-use Rattle.looms.specs.declared.MarginAnswer.{MarginAnswer}
-use Rattle.looms.proofs.Unique.{says-margin-answer}
+use Rattle.looms.specs.Answers.{lentOf}
+use Rattle.margins.specs.Answers.{marginSaysOf}
+use Rattle.margins.specs.declared.MarginAnswer.{MarginAnswer}
+use Rattle.margins.proofs.Unique.{says-margin-answer}
 use Rattle.records.specs.Numbers.{Got, got, refused as unread}
 use Rattle.records.specs.Answers.{saysWritten}
 use Rattle.records.specs.declared.writing.WriteAnswer.{WriteAnswer}

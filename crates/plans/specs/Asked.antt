@@ -1,5 +1,5 @@
 -- What is answered of a record, and what the lent lists hold afterwards: a refusal of reading is the answer, and then nothing is changed;
--- otherwise it is what building, writing or margin answers of the net that was read. Relies on records' `netRead` and `Writing`, net's `Building`, looms' `Answers`.
+-- otherwise it is what building, writing or margin answers of the net that was read. Relies on records' `netRead` and `Writing`, net's `Building`, looms' and margins' `Answers`.
 use mathlib.Core.Path.{_≡_}
 use mathlib.Core.List.{List}
 use Prim.Native.Nat.{ℕ}
@@ -13,8 +13,9 @@ use Rattle.net.specs.declared.Tree.{Tree}
 use Rattle.net.specs.declared.Tree.the-variants.{Lightest, Shortest, Between}
 use Rattle.net.specs.declared.Checked.{Checked}
 use Rattle.net.specs.declared.Checked.the-variants.{Sound, Refused as Unsound}
-use Rattle.looms.specs.Answers.{measuredOf, marginAnswerOf, lentOf}
-use Rattle.looms.specs.declared.MarginAnswer.{MarginAnswer}
+use Rattle.looms.specs.Answers.{measuredOf, lentOf}
+use Rattle.margins.specs.Answers.{marginAnswerOf}
+use Rattle.margins.specs.declared.MarginAnswer.{MarginAnswer}
 use Rattle.records.specs.Numbers.{Got, got, refused as unread}
 use Rattle.records.specs.Reading.{netRead}
 use Rattle.records.specs.Writing.{roomAfter}

@@ -1,9 +1,9 @@
 // What is asked of a record: plan it, write it again, the margin of a post, or only whether it is good. Each reads the record and goes on with the net
-// that was read; a refusal of reading is the answer, and then nothing lent is changed. None asks anything of what is lent. Thin over `records` and `looms`;
+// that was read; a refusal of reading is the answer, and then nothing lent is changed. None asks anything of what is lent. Thin over `records`, `looms` and `margins`;
 // the program and the library for C stand on it.
 use looms::Answer;
-use looms::MarginAnswer;
 use looms::Measured;
+use margins::MarginAnswer;
 use net::Checked;
 use net::Head;
 use net::MOST_SEGMENTS;
@@ -115,7 +115,7 @@ pub fn margin(bytes: &[u8], tree: Tree, post: u32) -> MarginAnswer
         ReadAnswer::Refused(r) => MarginAnswer::Refused(r),
         ReadAnswer::Read { head, count } => {
             let segments = read.segments;
-            looms::margin(head, segments, count as usize, tree, post)
+            margins::margin(head, segments, count as usize, tree, post)
         }
     }
 }

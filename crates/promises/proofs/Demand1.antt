@@ -14,11 +14,13 @@ use Rattle.net.specs.declared.Tree.{Tree}
 use Rattle.net.specs.declared.Tree.the-variants.{Lightest, Shortest, Between}
 use Rattle.net.proofs.Refusals.{build-answers, build-only, nine-exactly, not-joined-exactly, margin-answers, margin-only}
 use Rattle.lent.specs.Lists.{netOn}
-use Rattle.looms.specs.Answers.{answerOf, saysOf, lentOf, marginAnswerOf, marginSaysOf}
-use Rattle.looms.specs.declared.MarginAnswer.{MarginAnswer}
-use Rattle.looms.specs.declared.MarginAnswer.the-variants.{Refused as Unmeasured}
+use Rattle.looms.specs.Answers.{answerOf, saysOf, lentOf}
+use Rattle.margins.specs.Answers.{marginAnswerOf, marginSaysOf}
+use Rattle.margins.specs.declared.MarginAnswer.{MarginAnswer}
+use Rattle.margins.specs.declared.MarginAnswer.the-variants.{Refused as Unmeasured}
 use Rattle.looms.proofs.Meaning.{refused-exactly}
-use Rattle.looms.proofs.Unique.{answer-says, margin-answer-says}
+use Rattle.looms.proofs.Unique.{answer-says}
+use Rattle.margins.proofs.Unique.{margin-answer-says}
 use Rattle.records.specs.Numbers.{Got, got, refused}
 use Rattle.records.specs.Reading.{netRead}
 use Rattle.records.specs.Writing.{netWritten, writeRefusal, afterWriting, roomAfter}

@@ -19,15 +19,17 @@ use Rattle.net.specs.declared.Tree.{Tree}
 use Rattle.net.specs.declared.Tree.the-variants.{Lightest, Shortest, Between}
 use Rattle.net.proofs.Sound.{D-is-least, shortest-says, lightest-exactly, lightest-tree, shortest-tree, between-tree, walk-fuel}
 use Rattle.lent.specs.Lists.{netOn}
-use Rattle.looms.specs.Answers.{saysOf, Leaves, marginAnswerOf, marginSaysOf}
+use Rattle.looms.specs.Answers.{saysOf, Leaves}
+use Rattle.margins.specs.Answers.{marginAnswerOf, marginSaysOf}
 use Rattle.looms.specs.declared.Answer.{Answer}
-use Rattle.looms.specs.declared.MarginAnswer.{MarginAnswer}
-use Rattle.looms.proofs.Unique.{says-answer, margin-answer-says, margin-says}
+use Rattle.margins.specs.declared.MarginAnswer.{MarginAnswer}
+use Rattle.looms.proofs.Unique.{says-answer}
+use Rattle.margins.proofs.Unique.{margin-answer-says, margin-says}
 use Rattle.plans.specs.Asked.{Plans}
 use Rattle.plans.specs.Says.{Plan, saysPlanned}
 use Rattle.plans.specs.declared.PlanAnswer.{PlanAnswer}
-use Rattle.looms.specs.declared.MarginAnswer.the-variants.{Margin}
-use Rattle.looms.proofs.Meaning.{given-below, given-zero, given-source, given-between, given-shortest}
+use Rattle.margins.specs.declared.MarginAnswer.the-variants.{Margin}
+use Rattle.margins.proofs.Meaning.{given-below, given-zero, given-source, given-between, given-shortest}
 use Rattle.records.specs.Numbers.{Bytes, Got, got, refused}
 use Rattle.records.specs.Reading.{netRead}
 use Rattle.records.specs.Writing.{netWritten, onto}

@@ -20,9 +20,10 @@ use Rattle.net.specs.declared.Segment.{Segment}
 use Rattle.net.specs.declared.Refusal.{Refusal}
 use Rattle.net.specs.declared.Tree.{Tree}
 use Rattle.lent.specs.Lists.{netOn}
-use Rattle.looms.specs.Answers.{lentOf, Leaves, saysOf, marginAnswerOf, marginSaysOf}
+use Rattle.looms.specs.Answers.{lentOf, Leaves, saysOf}
+use Rattle.margins.specs.Answers.{marginAnswerOf, marginSaysOf}
 use Rattle.looms.specs.declared.Answer.{Answer}
-use Rattle.looms.specs.declared.MarginAnswer.{MarginAnswer}
+use Rattle.margins.specs.declared.MarginAnswer.{MarginAnswer}
 use Rattle.records.specs.Numbers.{Bytes, Got, got, refused as unread}
 use Rattle.records.specs.Reading.{netRead}
 use Rattle.records.specs.Writing.{writeRefusal}

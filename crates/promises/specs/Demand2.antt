@@ -23,9 +23,10 @@ use Rattle.net.specs.Walk.{atStart, walk}
 use Rattle.net.specs.Building.{Measured, built, lightestOf, leastLengthsOf, shortestOf, betweenOf, laidOf, givenWith, walkOf, treeOf, marginOf}
 use Rattle.net.specs.Building as B
 use Rattle.lent.specs.Lists.{netOn}
-use Rattle.looms.specs.Answers.{Leaves, saysOf, marginAnswerOf, marginSaysOf}
+use Rattle.looms.specs.Answers.{Leaves, saysOf}
+use Rattle.margins.specs.Answers.{marginAnswerOf, marginSaysOf}
 use Rattle.looms.specs.declared.Answer.{Answer}
-use Rattle.looms.specs.declared.MarginAnswer.{MarginAnswer}
+use Rattle.margins.specs.declared.MarginAnswer.{MarginAnswer}
 use Rattle.records.specs.Numbers.{Bytes, got}
 use Rattle.records.specs.Writing.{onto}
 use Rattle.records.specs.Answers.{result, saysBy, saysWritten, Writes}

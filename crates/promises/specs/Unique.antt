@@ -14,9 +14,10 @@ use Rattle.net.specs.declared.Segment.{Segment}
 use Rattle.net.specs.declared.Tree.{Tree}
 use Rattle.net.specs.declared.Checked.{Checked}
 use Rattle.lent.specs.Lists.{netOn}
-use Rattle.looms.specs.Answers.{Leaves, marginAnswerOf}
+use Rattle.looms.specs.Answers.{Leaves}
+use Rattle.margins.specs.Answers.{marginAnswerOf}
 use Rattle.looms.specs.declared.Answer.{Answer}
-use Rattle.looms.specs.declared.MarginAnswer.{MarginAnswer}
+use Rattle.margins.specs.declared.MarginAnswer.{MarginAnswer}
 use Rattle.records.specs.Numbers.{number}
 use Rattle.records.specs.Reading.{netRead}
 use Rattle.records.specs.Answers.{numberedOf, readArrayOf, Writes}

@@ -1,5 +1,5 @@
 -- `drover_margin` meets its contract: the refusal packed, or the margin in the list's first entry. Assumes nothing.
-use Rattle.looms.proofs.Margins.{back}
+use Rattle.margins.proofs.Margins.{back}
 use Rattle.abi.proofs.Answered.{margin-refused, margin-put}
 use borrow.Author.Needs.{needs}
 use Rattle.abi.proofs.drover_margin.Statement.{statement}

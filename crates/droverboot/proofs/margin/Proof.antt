@@ -8,12 +8,12 @@ use Rattle.lent.proofs.Types as T
 use Rattle.lent.proofs.gather as gather
 use Rattle.lent.proofs.gather.Symbol as gather-def
 use Rattle.lent.proofs.gather.Met as gather-thm
-use Rattle.looms.proofs.margin as core
-use Rattle.looms.proofs.margin.Symbol as core-def
-use Rattle.looms.proofs.margin.Met as core-thm
+use Rattle.margins.proofs.margin as core
+use Rattle.margins.proofs.margin.Symbol as core-def
+use Rattle.margins.proofs.margin.Met as core-thm
 use Rattle.net.specs.Net.{every}
 use Rattle.net.specs.Building.{marginOf}
-use Rattle.looms.specs.Answers.{marginAnswerOf}
+use Rattle.margins.specs.Answers.{marginAnswerOf}
 use Rattle.droverboot.proofs.Types as O
 use Rattle.droverboot.proofs.Building.{margin-list}
 use Rattle.droverboot.proofs.margin.Key as key
@@ -32,7 +32,7 @@ module _ {M : Type 1} (𝓤 : URA M) (H : Heap 𝓤) (𝓜 : Model 𝓤 H) (𝓖
   to-gather = callee 𝓤 H 𝓜 𝓖 𝓡 code.env 1 (shr 0 tt Segment.the-row ∷ []) T.segments (gather.clauses 𝓤 H (𝓖 .A) (𝓜 .mem) (𝓡 .run)) gather-def.name gather-def.routine code.calls-lent·gather (gather-thm.met 𝓤 H 𝓜 𝓖 𝓡)
 
   abbrev to-core : Callee 𝓤 H (𝓖 .A) (𝓣 .C) core-def.name
-  to-core = callee 𝓤 H 𝓜 𝓖 𝓡 code.env 0 (dat T.head ∷ dat T.segments ∷ dat T.usize ∷ dat O.tree ∷ dat O.u32 ∷ []) O.margin-answer (core.clauses 𝓤 H (𝓖 .A) (𝓜 .mem) (𝓡 .run)) core-def.name core-def.routine code.calls-looms·margin (core-thm.met 𝓤 H 𝓜 𝓖 𝓡)
+  to-core = callee 𝓤 H 𝓜 𝓖 𝓡 code.env 0 (dat T.head ∷ dat T.segments ∷ dat T.usize ∷ dat O.tree ∷ dat O.u32 ∷ []) O.margin-answer (core.clauses 𝓤 H (𝓖 .A) (𝓜 .mem) (𝓡 .run)) core-def.name core-def.routine code.calls-margins·margin (core-thm.met 𝓤 H 𝓜 𝓖 𝓡)
 
   walk : Walk 𝓤 H (𝓖 .A) (givenOf 𝓤 H 𝓜 𝓖) 1 ks O.margin-answer (f.clauses 𝓤 H (𝓖 .A) (𝓜 .mem) (𝓡 .run)) 𝓣 code.function
   walk κs qs a g are ok-args P exit =

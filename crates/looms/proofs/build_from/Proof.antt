@@ -1,6 +1,7 @@
 -- `build_from` meets its contract: a way out for 1 to 7, three for 8, and what is left. Assumes nothing.
 use mathlib.Core.Logic.{inl, inr}
-use Rattle.looms.proofs.Ways.{leaves-faulty, leaves-short, ready-sound}
+use Rattle.trees.proofs.Joined.{ready-sound}
+use Rattle.looms.proofs.Ways.{leaves-faulty, leaves-short}
 use native.Mathlib.Omega.{arith}
 use borrow.Author.Needs.{needs}
 use Rattle.looms.proofs.build_from.Statement.{statement}

@@ -1,6 +1,6 @@
 -- `build_in` meets its contract: the lowest post without a least length is that of 9. Assumes nothing.
 use mathlib.Core.Path.{_∙_}
-use Rattle.looms.proofs.Ready.{ready-posts, ready-source, ends-at, worked-at}
+use Rattle.trees.proofs.Ready.{ready-posts, ready-source, ends-at, worked-at}
 use Rattle.looms.proofs.Ways.{leaves-apart, leaves-joined}
 use native.Mathlib.Omega.{arith}
 use borrow.Author.Needs.{needs}

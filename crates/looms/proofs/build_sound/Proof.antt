@@ -1,6 +1,6 @@
 -- `build_sound` meets its contract: one call over lists of its own. Assumes nothing.
 use lib.ListN.{length-take}
-use Rattle.looms.proofs.Ready.{ready-posts}
+use Rattle.trees.proofs.Ready.{ready-posts}
 use native.Mathlib.Omega.{arith}
 use borrow.Author.Needs.{needs}
 use Rattle.looms.proofs.build_sound.Statement.{statement}

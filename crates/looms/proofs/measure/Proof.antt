@@ -1,5 +1,6 @@
 -- `measure` meets its contract: two measures of a tree that has an entry for each post. Assumes nothing.
-use Rattle.looms.proofs.Ready.{ready-few, ready-posts, ready-short, measured-at}
+use Rattle.trees.proofs.Ready.{ready-few, ready-posts, ready-short}
+use Rattle.looms.proofs.Ways.{measured-at}
 use native.Mathlib.Omega.{arith}
 use borrow.Author.Needs.{needs}
 use Rattle.looms.proofs.measure.Statement.{statement}

@@ -1,0 +1,4 @@
+-- Laws for the proofs of margin.
+pub mod Margins
+pub mod Unique
+pub mod Meaning

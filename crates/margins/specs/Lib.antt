@@ -1,0 +1,2 @@
+-- What the contracts of margin cite. Definitions only.
+pub mod Answers

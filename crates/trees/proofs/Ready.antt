@@ -1,0 +1,130 @@
+-- What a net that is ready gives to each crate that works on it: ends that are posts, lengths within bounds, and nothing too large.
+use mathlib.Core.Path.{_≡_, refl, sym, ap, _∙_}
+use mathlib.Core.Bool.{Bool, true, false}
+use mathlib.Core.List.{List, _++_, append-nil}
+use Prim.Native.Nat.{ℕ, _+_, _≤_, _<_}
+use native.Mathlib.Omega.{arith}
+use native.Mathlib.Nat.{le-refl}
+use lib.ListN.{length, getD, take, drop, replicate, drop-of-length-le}
+use Rattle.net.specs.Net.{every, segmentsOf, mostPosts, mostSegments}
+use Rattle.net.specs.Trees.{noneYet, at, belonging, hungFrom, lightest, leastLengths, shortest}
+use Rattle.net.specs.Building.{lightestOf, shortestOf, leastLengthsOf, walkOf, betweenOf, laidOf}
+use Rattle.net.specs.declared.Head.{Head}
+use Rattle.net.proofs.Least.{Inside, inside-part}
+use Rattle.net.proofs.Sound.{inside}
+use Rattle.shortest.specs.Lists.{flag, Ends, Short}
+use Rattle.net.proofs.Segments.{length-segments, segments-are, getD-any}
+use Rattle.lightest.specs.Marks.{there, Fit}
+use Rattle.lightest.proofs.Fitting.{inside-fit}
+use Rattle.lightest.proofs.Presence.{belonging-every}
+use Rattle.shortest.proofs.Trees.{length-first, first-at}
+use Rattle.between.specs.Asked.{Walkable, walkedOf, ThirdTree}
+use Rattle.between.proofs.Nets.{walked-of-net, net-walkable, least-low}
+use Rattle.trees.specs.Ready.{netAt, Ready, AllThere, Worked}
+
+-- m marks that are all true
+pub all-there : (m : ℕ) → m ≤ 2048 → AllThere (take m (replicate 2048 true)) m
+all-there m h = record { one-each = length-first 2048 m true h; all-true = λ i k. first-at 2048 m true false h i k }
+
+-- all segments have ends that are posts, so some have
+pub some-ends : {n : ℕ} {a b : List ℕ} {ok : ℕ → Bool} → Ends n a b every → Ends n a b ok
+some-ends z = record { b-many = z .b-many; few = z .few; a-in = λ i h o. z .a-in i h refl; b-in = λ i h o. z .b-in i h refl }
+
+-- a list of as many entries as are made anew
+pub front-only : (n : ℕ) (g l t : List ℕ) → length l ≡ n → t ≡ g ++ drop n l → t ≡ g
+front-only n g l t e f = let k : length l ≤ n = omega arith in f ∙ rw (drop-of-length-le l k) (append-nil g)
+
+module _ {head : Head} {a b lengths : List ℕ} (r : Ready head a b lengths) where
+  count-is : length (segmentsOf a b lengths) ≡ length a
+  count-is = length-segments a b lengths (r .b-level) (r .lengths-level)
+
+  pub ready-few : length a ≤ mostSegments
+  ready-few = omega (arith, count-is, r .sound .few-segments)
+
+  pub ready-posts : head .posts ≤ mostPosts
+  ready-posts = r .sound .head-sound .posts-sound .few-posts
+
+  pub ready-source : head .source < head .posts
+  ready-source = r .sound .head-sound .source-in
+
+  pub ready-inside : Inside (segmentsOf a b lengths) every (head .posts)
+  ready-inside = inside every (length (segmentsOf a b lengths)) (netAt head a b lengths) (le-refl _) (r .sound)
+
+  pub ready-ends : Ends (head .posts) a b every
+  ready-ends =
+      let s = segments-are a b lengths (r .b-level) (r .lengths-level) in
+      record {
+        b-many = r .b-level;
+        few = ready-few;
+        a-in = λ i h o. rw (← s .a-is i) (ready-inside .a-in i (omega (arith, count-is)) o);
+        b-in = λ i h o. rw (← s .b-is i) (ready-inside .b-in i (omega (arith, count-is)) o);
+      }
+
+  pub ready-short : Short lengths
+  ready-short =
+      let s = segments-are a b lengths (r .b-level) (r .lengths-level) in
+      record { most = λ i h. rw (← s .length-is i) ((r .sound .segments-sound i (omega (arith, count-is, r .lengths-level)) refl) .not-too-long) }
+
+  -- posts and source: the head's as indices
+  module _ {posts : ℕ} (posts-is : posts ≡ head .posts) where
+    pub ends-at : {ok : ℕ → Bool} → Ends posts a b ok
+    ends-at = rw posts-is (some-ends ready-ends)
+
+    pub fit-at : {present : List Bool} → AllThere present (length a) → Fit posts a b lengths present
+    fit-at {present} z =
+        rw posts-is
+        (inside-fit (omega (arith, ready-posts)) (omega (arith, ready-few, r .lengths-level)) (sym (r .lengths-level)) (r .b-level ∙ sym (r .lengths-level)) (z .one-each ∙ sym (r .lengths-level))
+        (inside-part (λ i h o. refl) ready-inside))
+
+    module _ {source : ℕ} (source-is : source ≡ head .source) where
+      -- the belonging marks, hung from the source, are the lightest tree
+      pub lightest-hung : {present marks : List Bool} (t old : List ℕ) → AllThere present (length a) → length old ≡ head .posts
+          → marks ≡ belonging (segmentsOf a b lengths) (there present) posts
+          → t ≡ hungFrom (segmentsOf a b lengths) posts source (flag marks) ++ drop posts old
+          → t ≡ lightestOf every (netAt head a b lengths)
+      unfolding lightestOf lightest
+      lightest-hung {present} t old z k f g =
+          let all : (j : ℕ) → j < length lengths → there present j ≡ true = λ j h. z .all-true j (omega (arith, r .lengths-level)) in
+          front-only posts _ old t (k ∙ sym posts-is) g
+          ∙ ap (λ l. hungFrom (segmentsOf a b lengths) posts source (flag l)) (f ∙ belonging-every (fit-at z) all)
+          ∙ rw (posts-is, source-is)
+
+      -- what `shortest_tree` leaves in two lists with an entry for each post
+      pub worked-at : {d t : List ℕ} (d₀ t₀ : List ℕ) → length d₀ ≡ head .posts → length t₀ ≡ head .posts
+          → d ≡ leastLengths (segmentsOf a b lengths) every posts source ++ drop posts d₀
+          → t ≡ shortest (segmentsOf a b lengths) every posts source ++ drop posts t₀
+          → Worked (netAt head a b lengths) d t
+      unfolding leastLengthsOf shortestOf
+      worked-at {d} {t} d₀ t₀ k l e f =
+          record {
+            lengths-are = rw (posts-is, source-is) at (front-only posts (leastLengths (segmentsOf a b lengths) every posts source) d₀ d (k ∙ sym posts-is) e);
+            tree-is = rw (posts-is, source-is) at (front-only posts (shortest (segmentsOf a b lengths) every posts source) t₀ t (l ∙ sym posts-is) f);
+          }
+
+      -- the third tree: what is asked, and what is left
+      module _ {dist short : List ℕ} (w : Worked (netAt head a b lengths) dist short) where
+        pub walkable-at : Walkable posts source (head .p) (head .q) a b lengths dist
+        walkable-at =
+            rw (posts-is, source-is, w .lengths-are)
+            (net-walkable (length (segmentsOf a b lengths)) head a b lengths (record { b-level = r .b-level; lengths-level = r .lengths-level }) (le-refl _) (r .sound))
+
+        module _ {light : List ℕ} (light-is : light ≡ lightestOf every (netAt head a b lengths)) where
+          walked-at : walkedOf posts source (head .p) (head .q) a b lengths light short dist ≡ walkOf every (netAt head a b lengths)
+          walked-at = rw (posts-is, source-is, light-is, w .lengths-are, w .tree-is) (walked-of-net every head a b lengths)
+
+          pub third-at : {laid : ℕ} {old t : List ℕ} → length old ≡ head .posts → ThirdTree posts source (head .p) (head .q) a b lengths light short dist old laid t
+              → (laid ≡ length (laidOf every (netAt head a b lengths))) × (t ≡ betweenOf every (netAt head a b lengths))
+          unfolding laidOf betweenOf
+          third-at {laid} {old} {t} k z =
+              (rw walked-at at (z .count), rw walked-at at (front-only posts ((walkedOf posts source (head .p) (head .q) a b lengths light short dist) .entries) old t (k ∙ sym posts-is) (z .tree)))
+
+  -- the least length of a post
+  module _ {dist short : List ℕ} (w : Worked (netAt head a b lengths) dist short) (post : ℕ) (h : post < length dist) where
+    pub least-at : getD dist post 0 ≡ at (leastLengthsOf every (netAt head a b lengths)) post
+    least-at = getD-any dist post 0 noneYet h ∙ ap (λ (l : List ℕ). at l post) (w .lengths-are)
+
+    -- no least length is above "none yet"
+    pub least-small : getD dist post 0 ≤ noneYet
+    least-small =
+        let z = least-low (length (segmentsOf a b lengths)) head a b lengths (record { b-level = r .b-level; lengths-level = r .lengths-level }) (le-refl _) (r .sound) post in
+        omega (arith, least-at, z)

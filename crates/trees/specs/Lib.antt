@@ -1,0 +1,2 @@
+-- What the contracts of the trees, and the inner contracts of building and margin, cite. Definitions only.
+pub mod Ready
