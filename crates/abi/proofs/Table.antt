@@ -17,11 +17,12 @@ use Rattle.net.specs.declared.Tree.{Tree}
 use Rattle.net.specs.declared.Checked.the-variants.{Refused as Unsound}
 use Rattle.margins.specs.Answers.{marginAnswerOf}
 use Rattle.margins.specs.declared.MarginAnswer.the-variants.{Refused as Unmeasured}
-use Rattle.records.specs.Numbers.{Bytes, Got, got, refused}
+use Rattle.numbers.specs.Numbers.{Bytes, Got, got, refused}
 use Rattle.net.specs.Rules.{BuildRule, MarginRule}
 use Rattle.net.proofs.Faults.{head-range, segment-range, faulty-range}
 use Rattle.net.proofs.Refusals.{build-answers, margin-answers}
-use Rattle.records.specs.Rules.{NumberRule, WriteRule, ReadRule, head-ten-eleven, one-to-four, eight, segment-ten-eleven, five-to-seven, twelve, good}
+use Rattle.numbers.specs.Rules.{NumberRule}
+use Rattle.records.specs.Rules.{WriteRule, ReadRule, head-ten-eleven, one-to-four, eight, segment-ten-eleven, five-to-seven, twelve, good}
 use Rattle.records.specs.Writing.{netWritten, writeRefusal}
 use Rattle.records.specs.Answers.{writeAnswerBy, writeAnswerOf}
 use Rattle.records.specs.declared.writing.WriteAnswer.the-variants.{Refused as Unwritten}

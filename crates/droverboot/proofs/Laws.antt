@@ -9,7 +9,7 @@ use Rattle.net.specs.declared.Head.{Head}
 use Rattle.lent.specs.Lists.{padded, netOn, fitting, laid}
 use Rattle.lent.proofs.Lists.{padded-short, laid-all, laid-none}
 use Rattle.lent.proofs.Nets.{netIn, answer-on-list}
-use Rattle.records.specs.Numbers.{Got, got, refused}
+use Rattle.numbers.specs.Numbers.{Got, got, refused}
 use Rattle.records.specs.Reading.{netRead}
 use Rattle.records.specs.Writing.{shortLines, netWritten, writeRefusal, afterWriting, roomAfter}
 use Rattle.records.specs.Answers.{readArrayOf, writeAnswerBy, writeAnswerOf, Writes}

@@ -5,7 +5,7 @@ use Prim.Native.Nat.{ℕ}
 use lib.ListN.{length, drop}
 use Rattle.net.specs.Net.{Net}
 use Rattle.net.specs.declared.Segment.{Segment}
-use Rattle.records.specs.Numbers.{Got, got, refused}
+use Rattle.numbers.specs.Numbers.{Got, got, refused}
 use Rattle.records.specs.Reading.{netRead}
 use Rattle.records.specs.declared.reading.ReadAnswer.{ReadAnswer}
 use Rattle.records.specs.declared.reading.ReadAnswer.the-variants.{Read, Refused}

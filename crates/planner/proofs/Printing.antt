@@ -17,7 +17,7 @@ use Rattle.net.proofs.Refusals.{accepted}
 use Rattle.net.proofs.Sound.{lightest-tree, shortest-tree, between-tree}
 use Rattle.looms.specs.Answers.{measuredOf, lentOf}
 use Rattle.looms.specs.declared.Measured.{Measured}
-use Rattle.records.specs.Numbers.{Got, got, refused}
+use Rattle.numbers.specs.Numbers.{Got, got, refused}
 use Rattle.plans.specs.Asked.{recordRead, plannedWith, planOf, treeList, Plans}
 use Rattle.plans.specs.declared.PlanAnswer.{PlanAnswer}
 use Rattle.plans.specs.declared.PlanAnswer.the-variants.{Planned, Refused}

@@ -4,7 +4,7 @@ use mathlib.Core.List.{List}
 use Prim.Native.Nat.{ℕ}
 use lib.ListN.{take}
 use Rattle.net.specs.Net.{mostSegments}
-use Rattle.records.specs.Numbers.{Bytes}
+use Rattle.numbers.specs.Numbers.{Bytes}
 use Rattle.records.specs.Reading.{enoughBytes}
 use Rattle.records.proofs.Lengths.{program-enough}
 use Rattle.plans.specs.Asked.{recordRead}

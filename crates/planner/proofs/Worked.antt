@@ -5,7 +5,7 @@ use Rattle.net.specs.Net.{before}
 use Rattle.net.specs.Trees.{better, round, least, hung, fewest, joined, hungFrom, belongs, belonging, lightest, leastLengths, hangingWeight, shortest, pathUp, pathIn, radius, whole}
 use Rattle.net.specs.Walk.{atStart, hangBy, try, lay, count, enter, walk}
 use Rattle.net.specs.Building.{lightestOf, leastLengthsOf, shortestOf, givenWith, walkWith, walkOf, betweenOf, laidOf, treeOf, joinedToSource, buildRefusal, measured, buildAnswer, buildOf}
-use Rattle.records.specs.Numbers.{groupsAt, number}
+use Rattle.numbers.specs.Numbers.{groupsAt, number}
 use Rattle.records.specs.Reading.{hold, roomLines, heading, segment, segments, ended, restRead, netRead}
 use Rattle.plans.specs.Asked.{recordRead}
 use Rattle.lines.specs.Text.{spelled, decimal, spaced, ratioText, netLine, entryText, entriesText, treeLine, laidLine, refusedLine, programText}

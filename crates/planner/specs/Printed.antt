@@ -6,7 +6,7 @@ use lib.ListN.{length}
 use Rattle.net.specs.Net.{Net, every, mostPosts}
 use Rattle.net.specs.Refusals.{Lent}
 use Rattle.net.specs.Building.{lightestOf, shortestOf, betweenOf, buildOf}
-use Rattle.records.specs.Numbers.{Got, got, refused}
+use Rattle.numbers.specs.Numbers.{Got, got, refused}
 use Rattle.plans.specs.Asked.{recordRead}
 use Rattle.lines.specs.Text.{refusedLine, programText}
 

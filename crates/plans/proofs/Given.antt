@@ -20,7 +20,7 @@ use Rattle.looms.specs.declared.Answer.{Answer}
 use Rattle.looms.specs.declared.Answer.the-variants.{Built, Refused as Unbuilt}
 use Rattle.margins.specs.declared.MarginAnswer.{MarginAnswer}
 use Rattle.margins.specs.declared.MarginAnswer.the-variants.{Refused as Unmeasured}
-use Rattle.records.specs.Numbers.{Got, got, refused as unread}
+use Rattle.numbers.specs.Numbers.{Got, got, refused as unread}
 use Rattle.records.specs.Answers.{padded, readArrayOf, Writes}
 use Rattle.records.specs.declared.reading.ReadAnswer.the-variants.{Read, Refused as ReadRefused}
 use Rattle.records.specs.declared.reading.ReadArray.{ReadArray}

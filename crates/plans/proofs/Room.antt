@@ -13,9 +13,9 @@ use Rattle.net.specs.Net.{Net, mostSegments}
 use Rattle.net.specs.Refusals.{first, headLines}
 use Rattle.net.specs.declared.Segment.{Segment}
 use Rattle.net.specs.declared.Refusal.{Refusal}
-use Rattle.records.specs.Numbers.{Bytes, Got, got, refused}
+use Rattle.numbers.specs.Numbers.{Bytes, Got, got, refused}
 use Rattle.records.specs.Reading.{Heading, heading, segments, restRead, netRead}
-use Rattle.records.specs.Writing.{onto}
+use Rattle.numbers.specs.Putting.{onto}
 use Rattle.records.specs.declared.writing.WriteAnswer.{WriteAnswer}
 use Rattle.records.specs.declared.writing.WriteAnswer.the-variants.{Written}
 use Rattle.records.proofs.Lines.{head-sound}

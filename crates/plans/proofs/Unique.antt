@@ -15,7 +15,7 @@ use Rattle.looms.specs.Answers.{lentOf}
 use Rattle.margins.specs.Answers.{marginSaysOf}
 use Rattle.margins.specs.declared.MarginAnswer.{MarginAnswer}
 use Rattle.margins.proofs.Unique.{says-margin-answer}
-use Rattle.records.specs.Numbers.{Got, got, refused as unread}
+use Rattle.numbers.specs.Numbers.{Got, got, refused as unread}
 use Rattle.records.specs.Answers.{saysWritten}
 use Rattle.records.specs.declared.writing.WriteAnswer.{WriteAnswer}
 use Rattle.records.proofs.Outcomes.{says-written}

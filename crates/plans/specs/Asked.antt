@@ -16,7 +16,7 @@ use Rattle.net.specs.declared.Checked.the-variants.{Sound, Refused as Unsound}
 use Rattle.looms.specs.Answers.{measuredOf, lentOf}
 use Rattle.margins.specs.Answers.{marginAnswerOf}
 use Rattle.margins.specs.declared.MarginAnswer.{MarginAnswer}
-use Rattle.records.specs.Numbers.{Got, got, refused as unread}
+use Rattle.numbers.specs.Numbers.{Got, got, refused as unread}
 use Rattle.records.specs.Reading.{netRead}
 use Rattle.records.specs.Writing.{roomAfter}
 use Rattle.records.specs.Answers.{writeAnswerOf}

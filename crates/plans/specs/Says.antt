@@ -10,7 +10,7 @@ use Rattle.net.specs.Building as B
 use Rattle.net.specs.declared.Head.{Head}
 use Rattle.net.specs.declared.Refusal.{Refusal}
 use Rattle.looms.specs.Answers.{measuredSays}
-use Rattle.records.specs.Numbers.{Got, got, refused as unread}
+use Rattle.numbers.specs.Numbers.{Got, got, refused as unread}
 use Rattle.records.specs.Writing.{netWritten, writeRefusal}
 use Rattle.records.specs.Answers.{Said, result, refusal-of, saidSize}
 use Rattle.plans.specs.declared.PlanAnswer.{PlanAnswer}

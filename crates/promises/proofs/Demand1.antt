@@ -21,7 +21,7 @@ use Rattle.margins.specs.declared.MarginAnswer.the-variants.{Refused as Unmeasu
 use Rattle.looms.proofs.Meaning.{refused-exactly}
 use Rattle.looms.proofs.Unique.{answer-says}
 use Rattle.margins.proofs.Unique.{margin-answer-says}
-use Rattle.records.specs.Numbers.{Got, got, refused}
+use Rattle.numbers.specs.Numbers.{Got, got, refused}
 use Rattle.records.specs.Reading.{netRead}
 use Rattle.records.specs.Writing.{netWritten, writeRefusal, afterWriting, roomAfter}
 use Rattle.records.specs.Answers.{refusal-of, saysBy, writeAnswerBy, writeAnswerOf, saysWritten, Writes}

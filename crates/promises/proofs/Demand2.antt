@@ -30,9 +30,10 @@ use Rattle.plans.specs.Says.{Plan, saysPlanned}
 use Rattle.plans.specs.declared.PlanAnswer.{PlanAnswer}
 use Rattle.margins.specs.declared.MarginAnswer.the-variants.{Margin}
 use Rattle.margins.proofs.Meaning.{given-below, given-zero, given-source, given-between, given-shortest}
-use Rattle.records.specs.Numbers.{Bytes, Got, got, refused}
+use Rattle.numbers.specs.Numbers.{Bytes, Got, got, refused}
 use Rattle.records.specs.Reading.{netRead}
-use Rattle.records.specs.Writing.{netWritten, onto}
+use Rattle.numbers.specs.Putting.{onto}
+use Rattle.records.specs.Writing.{netWritten}
 use Rattle.records.specs.Answers.{result, saysBy, saysWritten, Writes}
 use Rattle.records.specs.declared.reading.ReadAnswer.{ReadAnswer}
 use Rattle.records.specs.declared.writing.WriteAnswer.{WriteAnswer}

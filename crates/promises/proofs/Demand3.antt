@@ -14,7 +14,7 @@ use Rattle.lent.specs.Lists.{netOn}
 use Rattle.looms.specs.Answers.{Leaves, saysOf}
 use Rattle.looms.specs.declared.Answer.{Answer}
 use Rattle.looms.proofs.Unique.{says-answer}
-use Rattle.records.specs.Numbers.{got}
+use Rattle.numbers.specs.Numbers.{got}
 use Rattle.records.specs.Answers.{result}
 use Rattle.plans.specs.Asked.{recordRead, Plans}
 use Rattle.plans.specs.Says.{Plan, saysPlanned}

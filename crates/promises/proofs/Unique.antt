@@ -6,7 +6,8 @@ use Rattle.net.proofs.Checks.{check-head-one, check-segment-one, check-one}
 use Rattle.lent.specs.Lists.{netOn}
 use Rattle.looms.proofs.Unique.{build-one}
 use Rattle.margins.proofs.Unique.{margin-one}
-use Rattle.records.proofs.Outcomes.{number-at-unique, read-array-unique, write-array-unique}
+use Rattle.numbers.proofs.Outcomes.{number-at-unique}
+use Rattle.records.proofs.Outcomes.{read-array-unique, write-array-unique}
 use Rattle.droverboot.proofs.Unique.{read-one}
 use Rattle.plans.proofs.Unique as plans
 use Rattle.abi.proofs.Unique as abi

@@ -2,8 +2,8 @@
 -- changes nothing in lent memory. An otherwise sound net is refused as not joined exactly when some post has no route to the source."
 -- One record for each entry, for whatever is lent to it. `by-the-rules` and `no-other`: document 01's rules, one for each number, give one answer for every
 -- input. `refuses`: where they refuse, every outcome that the entry's contract allows is that refusal, and what was lent is as it was. `only-then`: an outcome is
--- a refusal only where they refuse. The rules stand in net/specs/Rules, records/specs/Rules and drawn/specs/Rules. What an answer says, its number and values,
--- is `saysOf`, `marginSaysOf`, `saysBy`, `saysWritten` and `saysPlanned`.
+-- a refusal only where they refuse. The rules stand in net/specs/Rules, numbers/specs/Rules, records/specs/Rules and drawn/specs/Rules. What an answer says, its number
+-- and values, is `saysOf`, `marginSaysOf`, `saysBy`, `saysWritten` and `saysPlanned`.
 use mathlib.Core.Path.{_≡_}
 use mathlib.Core.Logic.{_↔_}
 use mathlib.Core.List.{List}
@@ -24,7 +24,7 @@ use Rattle.looms.specs.Answers.{lentOf, Leaves, saysOf}
 use Rattle.margins.specs.Answers.{marginAnswerOf, marginSaysOf}
 use Rattle.looms.specs.declared.Answer.{Answer}
 use Rattle.margins.specs.declared.MarginAnswer.{MarginAnswer}
-use Rattle.records.specs.Numbers.{Bytes, Got, got, refused as unread}
+use Rattle.numbers.specs.Numbers.{Bytes, Got, got, refused as unread}
 use Rattle.records.specs.Reading.{netRead}
 use Rattle.records.specs.Writing.{writeRefusal}
 use Rattle.records.specs.Rules.{ReadRule, WriteRule}

@@ -27,8 +27,8 @@ use Rattle.looms.specs.Answers.{Leaves, saysOf}
 use Rattle.margins.specs.Answers.{marginAnswerOf, marginSaysOf}
 use Rattle.looms.specs.declared.Answer.{Answer}
 use Rattle.margins.specs.declared.MarginAnswer.{MarginAnswer}
-use Rattle.records.specs.Numbers.{Bytes, got}
-use Rattle.records.specs.Writing.{onto}
+use Rattle.numbers.specs.Numbers.{Bytes, got}
+use Rattle.numbers.specs.Putting.{onto}
 use Rattle.records.specs.Answers.{result, saysBy, saysWritten, Writes}
 use Rattle.records.specs.declared.reading.ReadAnswer.{ReadAnswer}
 use Rattle.records.specs.declared.writing.WriteAnswer.{WriteAnswer}

@@ -18,10 +18,11 @@ use Rattle.looms.specs.Answers.{Leaves}
 use Rattle.margins.specs.Answers.{marginAnswerOf}
 use Rattle.looms.specs.declared.Answer.{Answer}
 use Rattle.margins.specs.declared.MarginAnswer.{MarginAnswer}
-use Rattle.records.specs.Numbers.{number}
+use Rattle.numbers.specs.Numbers.{number}
 use Rattle.records.specs.Reading.{netRead}
-use Rattle.records.specs.Answers.{numberedOf, readArrayOf, Writes}
-use Rattle.records.specs.declared.numbers.Numbered.{Numbered}
+use Rattle.numbers.specs.Answers.{numberedOf}
+use Rattle.records.specs.Answers.{readArrayOf, Writes}
+use Rattle.numbers.specs.declared.Numbered.{Numbered}
 use Rattle.records.specs.declared.reading.ReadArray.{ReadArray}
 use Rattle.records.specs.declared.reading.ReadAnswer.{ReadAnswer}
 use Rattle.records.specs.declared.writing.WriteAnswer.{WriteAnswer}

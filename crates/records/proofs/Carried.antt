@@ -1,5 +1,5 @@
 -- Numbers that a reader reads one behind the other: each begins where the one before it ends, and where one is refused the reader stays, so the first refusal
--- stands whatever is read after it. What three and five of them come to is what `triple` and `heading` say. Relies on Groups and Steps.
+-- stands whatever is read after it. What three and five of them come to is what `triple` and `heading` say. Relies on numbers' Groups and on Steps.
 use Prim.Native.Nat.{ℕ, _+_, _≤_}
 use mathlib.Core.Path.{_≡_, refl, sym, _∙_}
 use mathlib.Core.List.{List}
@@ -7,12 +7,13 @@ use native.Mathlib.Omega.{arith}
 use lib.Dec.{lit≤}
 use Rattle.net.specs.Refusals.{refusal}
 use Rattle.net.specs.declared.Refusal.{Refusal}
-use Rattle.records.specs.Numbers.{Got, got, refused, number}
+use Rattle.numbers.specs.Numbers.{Got, got, refused, number}
 use Rattle.records.specs.Reading.{Reading, andThen, Triple, Heading, triple, heading}
-use Rattle.records.specs.Answers.{numberedOf, saysNumbered, behindOf, Placeable, tripleOf, headingOf}
-use Rattle.records.specs.declared.numbers.Numbered.{Numbered}
-use Rattle.records.specs.declared.numbers.Numbered.the-variants.{Number, Refused as NumberRefused}
-use Rattle.records.proofs.Groups.{number-next, number-place}
+use Rattle.numbers.specs.Answers.{numberedOf, saysNumbered, behindOf}
+use Rattle.records.specs.Answers.{Placeable, tripleOf, headingOf}
+use Rattle.numbers.specs.declared.Numbered.{Numbered}
+use Rattle.numbers.specs.declared.Numbered.the-variants.{Number, Refused as NumberRefused}
+use Rattle.numbers.proofs.Groups.{number-next, number-place}
 use Rattle.records.proofs.Steps.{heading-by}
 
 -- OF ANSWERS: the ways out of the code

@@ -16,31 +16,16 @@ use Rattle.net.specs.Rules.{HeadSound, SegmentSound, NetSound}
 use Rattle.net.specs.declared.Segment.{Segment}
 use Rattle.net.specs.declared.Head.{Head}
 use Rattle.net.specs.declared.Refusal.{Refusal}
-use Rattle.records.specs.Numbers.{Bytes, written, Got, got, refused, groupsAt, number}
+use Rattle.numbers.specs.Numbers.{Bytes, Got, got, refused, groupsAt, number}
 use Rattle.records.specs.Reading.{longestRecord, enoughBytes, Reading, andThen, unless, hold, Heading, roomLines, triple, heading, segment, segments, ended, restRead, netRead}
 use Rattle.records.specs.Writing.{headWritten, segmentWritten, segmentsWritten, netWritten}
-use Rattle.records.proofs.Groups.{number-next}
-use Rattle.records.proofs.Loops.{size-one, size-two, size-three}
+use Rattle.numbers.proofs.Groups.{number-next}
+use Rattle.numbers.proofs.Loops.{two-bytes, three-bytes}
 use Rattle.records.proofs.Lines.{head-sound, segment-sound}
 use Rattle.records.proofs.Puts.{head-length, segment-length}
 use Rattle.records.proofs.Steps.{triple-next, segment-by, heading-by, segment-is}
 use Rattle.records.proofs.Passes.{segments-count, net-by}
 use Rattle.records.proofs.RoundTrip.{heading-run, segment-run, segments-run, segments-sound, written-of-read}
-
--- HOW MANY BYTES small numbers take
-two-bytes : (n : ℕ) → n < 16384 → length (written n) ≤ 2
-two-bytes n h = go (ltb n 128) refl
-  where
-    go : (t : Bool) → ltb n 128 ≡ t → length (written n) ≤ 2
-    go true e = omega (arith, size-one n (ltb-true _ _ e))
-    go false e = omega (arith, size-two n (ltb-false n 128 e) h)
-
-three-bytes : (n : ℕ) → n < 2097152 → length (written n) ≤ 3
-three-bytes n h = go (ltb n 16384) refl
-  where
-    go : (t : Bool) → ltb n 16384 ≡ t → length (written n) ≤ 3
-    go true e = omega (arith, two-bytes n (ltb-true _ _ e))
-    go false e = omega (arith, size-three n (ltb-false n 16384 e) h)
 
 -- a head takes at most 10 bytes, a segment at most 7
 head-ten : (h : Head) (count : ℕ) → HeadSound h → count ≤ mostSegments → length (headWritten h count) ≤ 10

@@ -12,7 +12,7 @@ use Rattle.net.specs.Net.{Net}
 use Rattle.net.specs.Refusals.{refusal, first, headLines}
 use Rattle.net.specs.declared.Segment.{Segment}
 use Rattle.net.specs.declared.Refusal.{Refusal}
-use Rattle.records.specs.Numbers.{Got, got, refused}
+use Rattle.numbers.specs.Numbers.{Got, got, refused}
 use Rattle.records.specs.Reading.{andThen, unless, hold, Heading, roomLines, heading, segments, ended, restRead, netRead}
 use Rattle.records.proofs.Passes.{room-short, room-long, bytes-left, no-bytes-left, net-by}
 

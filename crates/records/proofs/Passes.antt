@@ -14,7 +14,7 @@ use Rattle.net.specs.Refusals.{refusal, first, headLines}
 use Rattle.net.specs.declared.Segment.{Segment}
 use Rattle.net.specs.declared.Head.{Head}
 use Rattle.net.specs.declared.Refusal.{Refusal}
-use Rattle.records.specs.Numbers.{Got, got, refused}
+use Rattle.numbers.specs.Numbers.{Got, got, refused}
 use Rattle.records.specs.Reading.{andThen, hold, Heading, roomLines, heading, segment, segments, ended, restRead, netRead}
 use Rattle.records.specs.Answers.{headReadOf, segmentReadOf, padded, segmentsReadOf, readArrayOf}
 use Rattle.records.specs.declared.reading.SegmentRead.{SegmentRead}

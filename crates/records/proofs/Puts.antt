@@ -1,35 +1,18 @@
--- Bytes put into a room, one run behind the other: what the writer's steps come to together. Relies on `put` and `onto` of specs/Writing.
-use Prim.Native.Nat.{ℕ, _+_, _-_, _<_, _≤_}
+-- Bytes put into a room, one run behind the other: what the writer's steps come to together. Relies on `put` and `onto` of the crate `numbers`.
+use Prim.Native.Nat.{ℕ, _+_, _<_, _≤_}
 use mathlib.Core.Path.{_≡_, refl, sym, ap, _∙_}
 use mathlib.Core.List.{List, [], _∷_, _++_, append-assoc, append-nil}
 use native.Mathlib.Nat.{zero-add, add-zero}
 use native.Mathlib.Omega.{arith}
 use native.Mathlib.Numerals.{add-one}
-use lib.ListN.{length, take, drop, length-append, length-take, length-drop, take-append-drop, drop-of-length-le}
+use lib.ListN.{length, take, drop, length-append, length-take, length-drop, take-append-drop}
 use lib.Seq.{take-suc, take-all, take-at, drop-at, drop-drop, length-take-le, getD-take}
-use borrow.Author.Tests.{lt-ltb, le-ltb, le-leb, lt-leb}
-use borrow.Rule.Slice.PartMut.{putMid, midOf, postOf}
 use Rattle.net.specs.Net.{segmentAt, beyond}
 use Rattle.net.specs.declared.Segment.{Segment}
 use Rattle.net.specs.declared.Head.{Head}
-use Rattle.records.specs.Numbers.{mostNumbers, written}
-use Rattle.records.specs.Writing.{headWritten, segmentWritten, segmentsWritten, onto, put, partOf, SegmentFits, SegmentsFit}
-
-module _ (l : List ℕ) (at : ℕ) (within : at ≤ length l) where
-  -- the part of a room from `at` on is all that is behind
-  pub part-is : midOf at (length l - at) l ≡ drop at l
-  part-is = take-all (length l - at) (drop at l) (simp length-drop (omega arith))
-
-  pub part-length : length (midOf at (length l - at) l) ≡ length l - at
-  part-length = rw part-is (length-drop at l)
-
-  behind-part : postOf at (length l - at) l ≡ []
-  behind-part = let h : length (drop at l) ≤ length l - at = simp length-drop (omega arith) in drop-of-length-le (drop at l) h
-
-  -- a run that was put at the front of the part is put at `at` in the whole
-  pub put-part : (w last : List ℕ) → last ≡ onto w (midOf at (length l - at) l) → putMid at (length l - at) l last ≡ put at w l
-  put-part w last e =
-      rw (behind-part, append-nil, e, part-is, drop-drop)
+use Rattle.numbers.specs.Numbers.{written}
+use Rattle.numbers.specs.Putting.{onto, put}
+use Rattle.records.specs.Writing.{headWritten, segmentWritten, segmentsWritten, SegmentFits, SegmentsFit}
 
 module _ (l u : List ℕ) (at : ℕ) (within : at + length u ≤ length l) where
   front : length (take at l ++ u) ≡ at + length u
@@ -218,20 +201,3 @@ module _ (segs : List Segment) (count : ℕ) (few : count ≤ 2048) (size : leng
     pub put-on : {room′ : List ℕ} {next′ : ℕ} → next′ ≡ next + length (segmentWritten (segmentAt segs i)) → room′ ≡ put next (segmentWritten (segmentAt segs i)) room
         → PutTo room₀ at (take count segs) room′ next′ (i + 1)
     put-on e f = put-next p below (fit .room-long) (rw (taken-at i h) e) (rw (taken-at i h) f)
-
--- THE PART THAT IS HANDED BACK
-pub part-too-big : (n : ℕ) (l : List ℕ) → mostNumbers ≤ n → partOf n l ≡ []
-unfolding partOf
-part-too-big n l h = rw (le-ltb _ _ h)
-
-pub part-too-long : (n : ℕ) (l : List ℕ) → n < mostNumbers → length l < length (written n) → partOf n l ≡ []
-unfolding partOf
-part-too-long n l h k = rw (lt-ltb _ _ h, lt-leb _ _ k)
-
-module _ (n : ℕ) (l x : List ℕ) (small : n < mostNumbers) (fits : length (written n) ≤ length l) (e : x ≡ onto (written n) l) where
-  pub part-written : {size : ℕ} → size ≡ length (written n) → take size x ≡ partOf n l
-  unfolding partOf
-  part-written f = rw (f, e, lt-ltb _ _ small, le-leb _ _ fits) (take-at (written n) _ _ refl)
-
-  pub part-size : {size : ℕ} → size ≡ length (written n) → size ≡ length (take size x)
-  part-size f = rw (f, e) (ap length (sym (take-at (written n) _ _ refl)))

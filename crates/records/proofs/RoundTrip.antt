@@ -1,5 +1,5 @@
 -- The round trips: reading what was written gives the net back; writing what was read gives the bytes back. So two good records of one net are equal,
--- and two nets of one record are. Relies on Runs, Steps, Passes and Lines.
+-- and two nets of one record are. Relies on numbers' Runs and on Steps, Passes and Lines.
 use Prim.Native.Nat.{ℕ, zero, suc, _+_, _<_, _≤_}
 use mathlib.Core.Path.{_≡_, refl, sym, ap, _∙_}
 use mathlib.Core.List.{List, [], _∷_, _++_, append-nil}
@@ -11,12 +11,12 @@ use Rattle.net.specs.Net.{Net, every, segmentAt, mostSegments}
 use Rattle.net.specs.Rules.{HeadSound, SegmentSound, NetSound, nothing}
 use Rattle.net.specs.declared.Segment.{Segment}
 use Rattle.net.specs.declared.Head.{Head}
-use Rattle.records.specs.Numbers.{Bytes, mostNumbers, written, got}
+use Rattle.numbers.specs.Numbers.{Bytes, mostNumbers, written, got}
 use Rattle.records.specs.Reading.{Triple, Heading, triple, heading, segment, segments, netRead}
 use Rattle.records.specs.Writing.{headWritten, segmentWritten, segmentsWritten, netWritten}
-use Rattle.records.specs.Rules.{Stand}
+use Rattle.numbers.specs.Rules.{Stand}
 use Rattle.records.proofs.Lines.{head-only, head-sound, segment-only, segment-sound}
-use Rattle.records.proofs.Runs.{stand-append, stand-first, stand-second, stand-none, number-stands, number-is}
+use Rattle.numbers.proofs.Runs.{stand-append, stand-first, stand-second, stand-none, number-stands, number-is}
 use Rattle.records.proofs.Steps.{triple-is, triple-all, heading-is, heading-all, segmentFrom, segment-is, segment-all}
 use Rattle.records.proofs.Passes.{segments-more, segments-none, FirstOf, segments-first, segments-count, rest-all, net-rest}
 use Rattle.records.proofs.Parsed.{net-is}

@@ -1,4 +1,4 @@
--- Records by the rules of specs/Rules: every input has an answer by them, it has no other, and the reader computes it. Relies on RuledNumbers, Lines, Steps
+-- Records by the rules of specs/Rules: every input has an answer by them, it has no other, and the reader computes it. Relies on numbers' RuledNumbers, Lines, Steps
 -- and Passes.
 use Prim.Native.Nat.{ℕ, zero, suc, _+_, _-_, _<_, _≤_}
 use mathlib.Core.Bool.{Bool, true, false}
@@ -15,12 +15,13 @@ use Rattle.net.specs.Refusals.{first, headLines, segmentLines}
 use Rattle.net.specs.declared.Segment.{Segment}
 use Rattle.net.specs.declared.Head.{Head}
 use Rattle.net.specs.declared.Refusal.{Refusal}
-use Rattle.records.specs.Numbers.{Bytes, Got, got, refused, number}
+use Rattle.numbers.specs.Numbers.{Bytes, Got, got, refused, number}
 use Rattle.records.specs.Reading.{andThen, Triple, Heading, triple, heading, segment, segments, netRead}
 use Rattle.net.specs.Rules.{HeadRule, SegmentRule}
-use Rattle.records.specs.Rules.{NumberRule, Row, empty, next, BreaksOff, SoundSegments, HeadStands, ReadRule, head-ten-eleven, one-to-four, eight, segment-ten-eleven, five-to-seven, twelve, good}
+use Rattle.numbers.specs.Rules.{NumberRule}
+use Rattle.records.specs.Rules.{Row, empty, next, BreaksOff, SoundSegments, HeadStands, ReadRule, head-ten-eleven, one-to-four, eight, segment-ten-eleven, five-to-seven, twelve, good}
 use Rattle.records.proofs.Lines.{head-only, head-rule, segment-only, segment-rule}
-use Rattle.records.proofs.RuledNumbers.{number-only, number-answers}
+use Rattle.numbers.proofs.RuledNumbers.{number-only, number-answers}
 use Rattle.records.proofs.Steps.{triple-is, triple-first, triple-second, triple-third, triple-all, heading-is, heading-by, heading-stops, heading-fourth, heading-fifth, heading-all, segmentFrom, segment-stops, segment-refused, segment-all}
 use Rattle.records.proofs.Passes.{behind, behind-none, behind-one, segments-none, segments-stop, segments-more, rest-head, rest-room, rest-segments, rest-more, rest-all, net-stops, net-rest}
 

@@ -1,4 +1,4 @@
--- The steps of reading, by the ways out of the code: three numbers, a head, a segment. Relies on Groups and on the definitions of specs/Reading.
+-- The steps of reading, by the ways out of the code: three numbers, a head, a segment. Relies on numbers' Groups and on the definitions of specs/Reading.
 use Prim.Native.Nat.{ℕ, _+_, _≤_}
 use mathlib.Core.Path.{_≡_, refl, sym}
 use mathlib.Core.List.{List}
@@ -9,14 +9,14 @@ use Rattle.net.specs.Refusals.{first, segmentLines}
 use Rattle.net.specs.declared.Segment.{Segment}
 use Rattle.net.specs.declared.Head.{Head}
 use Rattle.net.specs.declared.Refusal.{Refusal}
-use Rattle.records.specs.Numbers.{Got, got, refused, number}
+use Rattle.numbers.specs.Numbers.{Got, got, refused, number}
 use Rattle.records.specs.Reading.{Reading, andThen, unless, hold, Triple, Heading, triple, heading, segment}
 use Rattle.records.specs.Answers.{threeOf, headReadOf, segmentReadOf}
 use Rattle.records.specs.declared.reading.Three.{Three}
 use Rattle.records.specs.declared.reading.Three.the-variants.{Numbers, Refused as ThreeRefused}
 use Rattle.records.specs.declared.reading.HeadRead.the-variants.{Read as ReadHead, Refused as HeadRefused}
 use Rattle.records.specs.declared.reading.SegmentRead.the-variants.{Read as ReadSegment, Refused as SegmentRefused}
-use Rattle.records.proofs.Groups.{number-next}
+use Rattle.numbers.proofs.Groups.{number-next}
 
 -- what the answer of three numbers says
 pub three-stops : (g : Got Triple) (v : Three) (r : Refusal) → v ≡ threeOf g → v ≡ ThreeRefused r → g ≡ refused r

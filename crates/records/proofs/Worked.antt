@@ -1,7 +1,7 @@
 -- The table of worked records holds: every row is computed from the definitions.
 use mathlib.Core.Path.{refl}
 use Rattle.net.specs.Refusals.{first, headLines, segmentLines}
-use Rattle.records.specs.Numbers.{groups, written, groupsAt, number}
+use Rattle.numbers.specs.Numbers.{groups, written, groupsAt, number}
 use Rattle.records.specs.Reading.{hold, roomLines, heading, segment, segments, ended, restRead, netRead}
 use Rattle.records.specs.Writing.{headWritten, segmentWritten, segmentsWritten, netWritten}
 use Rattle.records.specs.Worked.{RecordsWorked}

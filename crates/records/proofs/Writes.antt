@@ -1,14 +1,12 @@
 -- What writing answers and what the room holds afterwards, by the ways out of the code. Relies on Lines, Puts and Sizes.
 use Prim.Native.Nat.{ℕ, _+_, _*_, _<_, _≤_}
-use mathlib.Core.Bool.{Bool, true, false}
 use mathlib.Core.Path.{_≡_, refl, sym, _∙_}
 use mathlib.Core.List.{List, [], _∷_, _++_}
 use mathlib.Core.Option.{Option, none, some}
 use native.Mathlib.Nat.{zero-add}
 use native.Mathlib.Omega.{arith}
 use lib.ListN.{length, take, length-append}
-use lib.Dec.{ltb}
-use borrow.Author.Tests.{ltb-true, ltb-false, lt-ltb, le-ltb}
+use borrow.Author.Tests.{lt-ltb, le-ltb}
 use Rattle.net.specs.Net.{Net, netOf, every}
 use Rattle.net.specs.Refusals.{refusal, first, headLines, allSegmentLines, netLines, checkedOf}
 use Rattle.net.specs.Rules.{NetSound}
@@ -17,28 +15,19 @@ use Rattle.net.specs.declared.Head.{Head}
 use Rattle.net.specs.declared.Refusal.{Refusal}
 use Rattle.net.specs.declared.Checked.{Checked}
 use Rattle.net.specs.declared.Checked.the-variants.{Sound, Refused}
-use Rattle.records.specs.Numbers.{written}
-use Rattle.records.specs.Writing.{headWritten, segmentsWritten, netWritten, shortLines, writeRefusal, put, roomAfter, HeadFits, SegmentsFit, NetFits}
+use Rattle.numbers.specs.Putting.{put}
+use Rattle.records.specs.Writing.{headWritten, segmentsWritten, netWritten, shortLines, writeRefusal, roomAfter, HeadFits, SegmentsFit, NetFits}
 use Rattle.records.specs.Answers.{sizedBy, sizedOf, writeAnswerOf}
 use Rattle.records.specs.declared.writing.Sized.{Sized}
 use Rattle.records.specs.declared.writing.Sized.the-variants.{Size, Refused as SizeRefused}
 use Rattle.records.specs.declared.writing.WriteAnswer.the-variants.{Written, Refused as WriteRefused}
-use Rattle.records.proofs.Loops.{size-one, size-two, size-three, size-four}
+use Rattle.numbers.proofs.Loops.{size-most}
 use Rattle.records.proofs.Lines.{head-sound}
 use Rattle.net.proofs.Faults.{net-sound}
 use Rattle.records.proofs.Puts.{wrote-more, wrote-first, put-onto, segment-length, taken-length}
 use Rattle.records.proofs.Sizes.{first-none, first-some, refused-lines, sound-lines}
 
 -- HOW LONG A RECORD CAN BE, by its numbers alone
-pub size-most : (n : ℕ) → length (written n) ≤ 4
-size-most n = go (ltb n 128) (ltb n 16384) (ltb n 2097152) refl refl refl
-  where
-    go : (t u v : Bool) → ltb n 128 ≡ t → ltb n 16384 ≡ u → ltb n 2097152 ≡ v → length (written n) ≤ 4
-    go true u v e f g = omega (arith, size-one n (ltb-true _ _ e))
-    go false true v e f g = omega (arith, size-two n (ltb-false n 128 e) (ltb-true _ _ f))
-    go false false true e f g = omega (arith, size-three n (ltb-false n 16384 f) (ltb-true _ _ g))
-    go false false false e f g = omega (arith, size-four n (ltb-false n 2097152 g))
-
 segments-most : (ss : List Segment) → length (segmentsWritten ss) ≤ 12 * length ss
 unfolding segmentsWritten
 segments-most [] = omega arith

@@ -1,19 +1,19 @@
 -- What the answers of the code say in document 01's words: "either a result or a refusal with its number and its place".
--- Relies on `Numbers`, `Reading` and `Writing`; the contracts of the code are equations with these.
+-- Relies on `numbers`, `Reading` and `Writing`; the contracts of the code are equations with these.
 use Prim.Native.Nat.{ℕ, _-_, _<_}
 use mathlib.Core.Path.{_≡_}
 use mathlib.Core.List.{List, [], _++_}
 use mathlib.Core.Option.{Option, none, some}
 use lib.ListN.{length, replicate}
 use Rattle.net.specs.Net.{Net, netOf, every, beyond}
-use Rattle.net.specs.Refusals.{refusal, first, allSegmentLines}
+use Rattle.net.specs.Refusals.{first, allSegmentLines}
 use Rattle.net.specs.declared.Segment.{Segment}
 use Rattle.net.specs.declared.Refusal.{Refusal}
-use Rattle.records.specs.Numbers.{Got, got, refused}
+use Rattle.numbers.specs.Numbers.{Got, got, refused}
+use Rattle.numbers.specs.Answers.{saysNumbered, behindOf}
 use Rattle.records.specs.Reading.{andThen, Triple, Heading}
 use Rattle.records.specs.Writing.{segmentsWritten, netWritten, writeRefusal, roomAfter}
-use Rattle.records.specs.declared.numbers.Numbered.{Numbered}
-use Rattle.records.specs.declared.numbers.Numbered.the-variants.{Number, Refused as NumberRefused}
+use Rattle.numbers.specs.declared.Numbered.{Numbered}
 use Rattle.records.specs.declared.reading.Three.{Three}
 use Rattle.records.specs.declared.reading.Three.the-variants.{Numbers, Refused as ThreeRefused}
 use Rattle.records.specs.declared.reading.HeadRead.{HeadRead}
@@ -38,20 +38,6 @@ pub data Said (X : Type 0) : Type 0 where
 abbrev pub saidOf : {X : Type 0} → Got X → Said X
 saidOf (got x next) = result x
 saidOf (refused r) = refusal-of r
-
--- NUMBERS: the number and the offset after it, or 10 or 11
-abbrev pub numberedOf : Got ℕ → Numbered
-numberedOf (got n next) = Number n next
-numberedOf (refused r) = NumberRefused (r .number) (r .place)
-
-abbrev pub saysNumbered : Numbered → Got ℕ
-saysNumbered (Number n next) = got n next
-saysNumbered (NumberRefused number place) = refused (refusal number place)
-
--- the offset after a number; of a refusal, the offset where the number begins
-abbrev pub behindOf : Numbered → ℕ
-behindOf (Number n next) = next
-behindOf (NumberRefused number place) = place
 
 -- a place that a refusal can name, as one of 32 bits
 abbrev pub Placeable : Numbered → Type 0

@@ -1,5 +1,4 @@
 -- What document 01 says of the record, in its words and its order. Definitions only; what is proved of them stands in proofs/.
-pub mod Numbers
 pub mod Reading
 pub mod Writing
 pub mod Answers

@@ -1,5 +1,5 @@
 -- Reading a record: a reader whose lines stand in the order of the refusals. "Reading: the five head numbers (10, 11), then 1 to 4, then 8 for the
--- lent lists, then each segment's three numbers (10, 11) followed by its 5, 6, 7, then 12." Relies on `Numbers` and on net's lines of refusals.
+-- lent lists, then each segment's three numbers (10, 11) followed by its 5, 6, 7, then 12." Relies on `numbers` and on net's lines of refusals.
 -- `Rules` says the same without an order of work, and proofs/Ruled joins the two.
 use Prim.Native.Nat.{ℕ, zero, suc, _+_}
 use mathlib.Core.Bool.{cond}
@@ -12,7 +12,7 @@ use Rattle.net.specs.Refusals.{Line, refusal, line, first, headLines, segmentLi
 use Rattle.net.specs.declared.Segment.{Segment}
 use Rattle.net.specs.declared.Head.{Head}
 use Rattle.net.specs.declared.Refusal.{Refusal}
-use Rattle.records.specs.Numbers.{Got, got, refused, number}
+use Rattle.numbers.specs.Numbers.{Got, got, refused, number}
 
 -- "The longest good record has 14,346 bytes. The program reads at most 14,351, which is enough for a last segment of three four-byte numbers"
 abbrev pub longestRecord : ℕ

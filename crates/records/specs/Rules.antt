@@ -1,42 +1,25 @@
 -- Reading and writing a record as rules, one constructor for each refusal with its place, without tests and without an order of work: each says that nothing
 -- before it holds. proofs/Ruled and proofs/RuledWriting prove that every record and every net has an answer by these rules, that it has no other, and that
--- `Reading` and `Writing` compute it.
-use Prim.Native.Nat.{ℕ, _+_, _<_, _≤_}
-use mathlib.Core.Path.{_≡_}
+-- `Reading` and `Writing` compute it. A single number's rules are those of the crate `numbers`.
+use Prim.Native.Nat.{ℕ, _<_, _≤_}
 use mathlib.Core.List.{List, [], _∷_, _++_}
 use mathlib.Core.Option.{Option, none, some}
-use lib.ListN.{length, getD, drop}
+use lib.ListN.{length}
 use Rattle.net.specs.Net.{Net, every}
 use Rattle.net.specs.Refusals.{refusal}
 use Rattle.net.specs.Rules.{HeadRule, SegmentRule, NetSound, Faulty}
 use Rattle.net.specs.declared.Segment.{Segment}
 use Rattle.net.specs.declared.Head.{Head}
 use Rattle.net.specs.declared.Refusal.{Refusal}
-use Rattle.records.specs.Numbers.{mostNumbers, written, Got, got, refused}
+use Rattle.numbers.specs.Numbers.{Got, got, refused}
+use Rattle.numbers.specs.Rules.{NumberRule}
 use Rattle.records.specs.Writing.{netWritten}
 
--- the bytes w stand from one offset to another
-pub record Stand (bytes : List ℕ) (at : ℕ) (w : List ℕ) (next : ℕ) : Type 0 where
-  pub stand : drop at bytes ≡ w ++ drop next bytes
-  pub size : next ≡ at + length w
-
 module _ (bytes : List ℕ) where
-  -- k bytes are there from `at` on, and each says that more follow
-  abbrev pub MoreFollow : ℕ → ℕ → Type 0
-  MoreFollow at k = (j : ℕ) → j < k → (at + j < length bytes) × (128 ≤ getD bytes (at + j) 0)
-
-  -- A NUMBER: 10 "record ends before a number, or inside one after at most three of its bytes";
-  -- 11 "number not in its shortest form, or a fourth group that says more follow"
-  pub data NumberRule (at : ℕ) : Got ℕ → Type 0 where
-    stands : {n next : ℕ} → n < mostNumbers → Stand bytes at (written n) next → NumberRule at (got n next)
-    ten : {k : ℕ} → k < 4 → MoreFollow at k → length bytes ≤ at + k → NumberRule at (refused (refusal 10 at))
-    eleven-zero : {k : ℕ} → 1 ≤ k → k < 4 → MoreFollow at k → at + k < length bytes → getD bytes (at + k) 0 ≡ 0 → NumberRule at (refused (refusal 11 at))
-    eleven-more : MoreFollow at 4 → NumberRule at (refused (refusal 11 at))
-
   -- numbers in a row, from one offset to another
   pub data Row : ℕ → List ℕ → ℕ → Type 0 where
     empty : {at : ℕ} → Row at [] at
-    next : {at i last n : ℕ} {ns : List ℕ} → NumberRule at (got n i) → Row i ns last → Row at (n ∷ ns) last
+    next : {at i last n : ℕ} {ns : List ℕ} → NumberRule bytes at (got n i) → Row i ns last → Row at (n ∷ ns) last
 
   -- fewer than k numbers are there before one that is refused
   pub record BreaksOff (k at : ℕ) (r : Refusal) : Type 0 where
@@ -44,7 +27,7 @@ module _ (bytes : List ℕ) where
     pub last : ℕ
     pub row : Row at ns last
     pub fewer : length ns < k
-    pub refuses : NumberRule last (refused r)
+    pub refuses : NumberRule bytes last (refused r)
 
   -- sound segments from the offset `start` on, and the offset after them
   pub data SoundSegments (posts start : ℕ) : List Segment → ℕ → Type 0 where

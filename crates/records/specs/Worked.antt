@@ -6,7 +6,7 @@ use mathlib.Core.List.{List, [], _∷_}
 use Rattle.net.specs.Net.{Net}
 use Rattle.net.specs.Refusals.{refusal}
 use Rattle.net.specs.declared.Segment.{Segment}
-use Rattle.records.specs.Numbers.{written, got, refused, number}
+use Rattle.numbers.specs.Numbers.{written, got, refused, number}
 use Rattle.records.specs.Reading.{netRead}
 use Rattle.records.specs.Writing.{netWritten}
 

@@ -1,18 +1,18 @@
 -- Writing a record: "post count, source, p, q, segment count, then for each segment its two posts in the order given and its length", each number as
--- `Numbers` has it; its refusals, "Writing: 1 to 7, then 18", and the room afterwards. Relies on `Numbers` and on net's lines of refusals.
+-- the crate `numbers` has it; its refusals, "Writing: 1 to 7, then 18", and the room afterwards. Relies on `numbers` and on net's lines of refusals.
 use Prim.Native.Nat.{ℕ, _+_, _<_, _≤_}
-use mathlib.Core.Bool.{_&&_, cond}
 use mathlib.Core.List.{List, [], _∷_, _++_}
 use mathlib.Core.Option.{Option, none, some}
 use mathlib.Core.Path.{_≡_}
-use lib.Dec.{ltb, leb}
-use lib.ListN.{length, take, drop}
+use lib.Dec.{ltb}
+use lib.ListN.{length}
 use Rattle.net.specs.Net.{Net, every, lengthAt}
 use Rattle.net.specs.Refusals.{Line, line, first, netLines}
 use Rattle.net.specs.declared.Segment.{Segment}
 use Rattle.net.specs.declared.Head.{Head}
 use Rattle.net.specs.declared.Refusal.{Refusal}
-use Rattle.records.specs.Numbers.{mostNumbers, written}
+use Rattle.numbers.specs.Numbers.{mostNumbers, written}
+use Rattle.numbers.specs.Putting.{onto}
 
 unfoldable pub headWritten : Head → ℕ → List ℕ
 headWritten h count = written (h .posts) ++ (written (h .source) ++ (written (h .p) ++ (written (h .q) ++ written count)))
@@ -35,18 +35,6 @@ shortLines room size = line 18 (ltb room size) 0 ∷ []
 -- "Writing: 1 to 7, then 18." m is the number of segments that is claimed, room how many bytes are lent
 unfoldable pub writeRefusal : Net → ℕ → ℕ → Option Refusal
 writeRefusal n m room = first (netLines every m n ++ shortLines room (length (netWritten n)))
-
--- the bytes s at the front of a list, and behind them what stood there
-abbrev pub onto : List ℕ → List ℕ → List ℕ
-onto s l = s ++ drop (length s) l
-
--- the bytes s in a list from the entry i on
-abbrev pub put : ℕ → List ℕ → List ℕ → List ℕ
-put i s l = take i l ++ (s ++ drop (i + length s) l)
-
--- the part that a number's writer hands back: the number's bytes, or nothing where it has more than four groups or the room is too short
-unfoldable pub partOf : ℕ → List ℕ → List ℕ
-partOf n l = cond (ltb n mostNumbers && leb (length (written n)) (length l)) (written n) []
 
 -- the room afterwards: the record followed by what stood there; after a refusal "what it held before"
 abbrev pub afterWriting : Option Refusal → Net → List ℕ → List ℕ

@@ -2,16 +2,16 @@
 // number, in one pass; where a number is refused it stays, and the first refusal is the answer.
 // What is read stands in an array of its own, and a refusal leaves it zero: nothing is stored before the whole record is found good.
 use crate::checks::segment_refusal;
-use crate::numbers::Numbered;
-use crate::reader::behind;
-use crate::reader::moved;
-use crate::reader::new;
-use crate::reader::number;
 use net::Checked;
 use net::Head;
 use net::Refusal;
 use net::Segment;
 use net::check_head;
+use numbers::Numbered;
+use numbers::reader::behind;
+use numbers::reader::moved;
+use numbers::reader::new;
+use numbers::reader::number;
 ghost use mathlib.Core.Path.{_≡_};
 ghost use Prim.Native.Nat.{_<_, _≤_};
 ghost use lib.ListN.{replicate};

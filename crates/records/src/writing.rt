@@ -1,17 +1,18 @@
 // Writing a net's record. "Writing: 1 to 7, then 18": nothing is written before the whole net is found sound and the room long enough.
 use crate::checks::segment_refusal;
-use crate::numbers::number_size;
-use crate::numbers::put_at;
 use net::Checked;
 use net::Head;
 use net::Refusal;
 use net::Segment;
 use net::check_head;
+use numbers::number_size;
+use numbers::put_at;
 ghost use mathlib.Core.Path.{_≡_};
 ghost use Prim.Native.Nat.{_+_, _<_, _≤_};
 ghost use lib.ListN.{length, take};
 ghost use Rattle.net.specs.Net.{netOf};
-ghost use Rattle.records.specs.Writing.{headWritten, segmentWritten, segmentsWritten, put};
+ghost use Rattle.numbers.specs.Putting.{put};
+ghost use Rattle.records.specs.Writing.{headWritten, segmentWritten, segmentsWritten};
 ghost use Rattle.records.specs.Writing.{HeadFits, SegmentFits, SegmentsFit, NetFits};
 ghost use Rattle.records.specs.Answers.{sizedOf, Writes};
 

@@ -6,8 +6,8 @@ use Rattle.lent.proofs.Params.{Data, enum}
 use Rattle.lent.proofs.Held.{own-of}
 use Rattle.records.specs.Answers.{headReadOf, headingOf}
 use Rattle.records.proofs.Carried.{read, on, head-near, heading-carried}
-use Rattle.records.proofs.Readers.{numbered, bytes, reader-opened}
-use Rattle.records.proofs.ReaderCalls.{reader-at, starts, reads, goes-on, moves}
+use Rattle.numbers.proofs.Readers.{numbered, bytes, reader-opened}
+use Rattle.numbers.proofs.ReaderCalls.{reader-at, starts, reads, goes-on, moves}
 use Rattle.records.proofs.reading.HeadRead as HeadRead
 use Rattle.records.proofs.reading.HeadRead.Laws as HeadRead′
 use Rattle.records.proofs.reading.head_of as core
@@ -37,30 +37,30 @@ module _ {M : Type 1} (𝓤 : URA M) (H : Heap 𝓤) (𝓜 : Model 𝓤 H) (𝓖
       drop ! $ begins ! 𝓣 code.function _ P (λ l₀ l₁ l₂ l₃ l₄ l₅ l₆ l₇ l₈ l₉ l₁₀ l₁₁ l₁₂ l₁₃ l₁₄ l₁₅ l₁₆ l₁₇ l₁₈ l₁₉ l₂₀ l₂₁. (
         ok-args,
         -- [_0 … _21; that they die; κ; what the bytes own]
-        (move ! (23 ∷ 24 ∷ []) $ starts 𝓖 𝓡 code.env κs qs ! s code.calls-records·reader·new (args ! 1 (1 ∷ []) (refl, tt)) (λ ok₀. land ! (from ! (stop !)) (init ! 4 refl ok₀) $
+        (move ! (23 ∷ 24 ∷ []) $ starts 𝓖 𝓡 code.env κs qs ! s code.calls-numbers·reader·new (args ! 1 (1 ∷ []) (refl, tt)) (λ ok₀. land ! (from ! (stop !)) (init ! 4 refl ok₀) $
             -- [κ; what the reader owns; _0 … _21; that they die]
             -- _3 = number(_2)
-            assigns ! (of-opd ! (at ! 2 refl)) (from ! (stop !)) (init ! 14 refl ok₀) $ reads 𝓖 𝓡 code.env κs qs ! (reader-at s 0) code.calls-records·reader·number (args ! 2 (12 ∷ []) (refl, tt)) (λ n₁ fit₁. land ! (from ! (stop !)) (init ! 5 refl (fit₁ .0)) $
+            assigns ! (of-opd ! (at ! 2 refl)) (from ! (stop !)) (init ! 14 refl ok₀) $ reads 𝓖 𝓡 code.env κs qs ! (reader-at s 0) code.calls-numbers·reader·number (args ! 2 (12 ∷ []) (refl, tt)) (λ n₁ fit₁. land ! (from ! (stop !)) (init ! 5 refl (fit₁ .0)) $
             -- _4 = moved(_2, behind(_3))
-            assigns ! (of-opd ! (at ! 2 refl)) (from ! (stop !)) (init ! 15 refl ok₀) $ goes-on 𝓖 𝓡 code.env ! (read l 0) n₁ code.calls-records·reader·behind (args ! 3 (3 ∷ []) (refl, tt)) (λ few₁. land ! (from ! (stop !)) (init ! 16 refl (tt, record { fits = few₁ })) $
-            moves 𝓖 𝓡 code.env κs qs ! (reader-at s 0) i₁ few₁ code.calls-records·reader·moved (args ! 1 (13 ∷ 14 ∷ []) (refl, (refl, tt))) (λ ok₁. land ! (from ! (stop !)) (init ! 6 refl ok₁) $
+            assigns ! (of-opd ! (at ! 2 refl)) (from ! (stop !)) (init ! 15 refl ok₀) $ goes-on 𝓖 𝓡 code.env ! (read l 0) n₁ code.calls-numbers·reader·behind (args ! 3 (3 ∷ []) (refl, tt)) (λ few₁. land ! (from ! (stop !)) (init ! 16 refl (tt, record { fits = few₁ })) $
+            moves 𝓖 𝓡 code.env κs qs ! (reader-at s 0) i₁ few₁ code.calls-numbers·reader·moved (args ! 1 (13 ∷ 14 ∷ []) (refl, (refl, tt))) (λ ok₁. land ! (from ! (stop !)) (init ! 6 refl ok₁) $
             -- _5 = number(_4)
-            assigns ! (of-opd ! (at ! 2 refl)) (from ! (stop !)) (init ! 17 refl ok₁) $ reads 𝓖 𝓡 code.env κs qs ! (reader-at s i₁) code.calls-records·reader·number (args ! 2 (15 ∷ []) (refl, tt)) (λ n₂ fit₂. land ! (from ! (stop !)) (init ! 7 refl (fit₂ .0)) $
+            assigns ! (of-opd ! (at ! 2 refl)) (from ! (stop !)) (init ! 17 refl ok₁) $ reads 𝓖 𝓡 code.env κs qs ! (reader-at s i₁) code.calls-numbers·reader·number (args ! 2 (15 ∷ []) (refl, tt)) (λ n₂ fit₂. land ! (from ! (stop !)) (init ! 7 refl (fit₂ .0)) $
             -- _6 = moved(_4, behind(_5))
-            assigns ! (of-opd ! (at ! 2 refl)) (from ! (stop !)) (init ! 18 refl ok₁) $ goes-on 𝓖 𝓡 code.env ! (read l i₁) n₂ code.calls-records·reader·behind (args ! 3 (5 ∷ []) (refl, tt)) (λ few₂. land ! (from ! (stop !)) (store ! 16 refl (tt, record { fits = few₂ })) $
-            moves 𝓖 𝓡 code.env κs qs ! (reader-at s i₁) i₂ few₂ code.calls-records·reader·moved (args ! 1 (16 ∷ 14 ∷ []) (refl, (refl, tt))) (λ ok₂. land ! (from ! (stop !)) (init ! 8 refl ok₂) $
+            assigns ! (of-opd ! (at ! 2 refl)) (from ! (stop !)) (init ! 18 refl ok₁) $ goes-on 𝓖 𝓡 code.env ! (read l i₁) n₂ code.calls-numbers·reader·behind (args ! 3 (5 ∷ []) (refl, tt)) (λ few₂. land ! (from ! (stop !)) (store ! 16 refl (tt, record { fits = few₂ })) $
+            moves 𝓖 𝓡 code.env κs qs ! (reader-at s i₁) i₂ few₂ code.calls-numbers·reader·moved (args ! 1 (16 ∷ 14 ∷ []) (refl, (refl, tt))) (λ ok₂. land ! (from ! (stop !)) (init ! 8 refl ok₂) $
             -- _7 = number(_6)
-            assigns ! (of-opd ! (at ! 2 refl)) (from ! (stop !)) (init ! 19 refl ok₂) $ reads 𝓖 𝓡 code.env κs qs ! (reader-at s i₂) code.calls-records·reader·number (args ! 2 (17 ∷ []) (refl, tt)) (λ n₃ fit₃. land ! (from ! (stop !)) (init ! 9 refl (fit₃ .0)) $
+            assigns ! (of-opd ! (at ! 2 refl)) (from ! (stop !)) (init ! 19 refl ok₂) $ reads 𝓖 𝓡 code.env κs qs ! (reader-at s i₂) code.calls-numbers·reader·number (args ! 2 (17 ∷ []) (refl, tt)) (λ n₃ fit₃. land ! (from ! (stop !)) (init ! 9 refl (fit₃ .0)) $
             -- _8 = moved(_6, behind(_7))
-            assigns ! (of-opd ! (at ! 2 refl)) (from ! (stop !)) (init ! 20 refl ok₂) $ goes-on 𝓖 𝓡 code.env ! (read l i₂) n₃ code.calls-records·reader·behind (args ! 3 (7 ∷ []) (refl, tt)) (λ few₃. land ! (from ! (stop !)) (store ! 16 refl (tt, record { fits = few₃ })) $
-            moves 𝓖 𝓡 code.env κs qs ! (reader-at s i₂) i₃ few₃ code.calls-records·reader·moved (args ! 1 (18 ∷ 14 ∷ []) (refl, (refl, tt))) (λ ok₃. land ! (from ! (stop !)) (init ! 10 refl ok₃) $
+            assigns ! (of-opd ! (at ! 2 refl)) (from ! (stop !)) (init ! 20 refl ok₂) $ goes-on 𝓖 𝓡 code.env ! (read l i₂) n₃ code.calls-numbers·reader·behind (args ! 3 (7 ∷ []) (refl, tt)) (λ few₃. land ! (from ! (stop !)) (store ! 16 refl (tt, record { fits = few₃ })) $
+            moves 𝓖 𝓡 code.env κs qs ! (reader-at s i₂) i₃ few₃ code.calls-numbers·reader·moved (args ! 1 (18 ∷ 14 ∷ []) (refl, (refl, tt))) (λ ok₃. land ! (from ! (stop !)) (init ! 10 refl ok₃) $
             -- _9 = number(_8)
-            assigns ! (of-opd ! (at ! 2 refl)) (from ! (stop !)) (init ! 21 refl ok₃) $ reads 𝓖 𝓡 code.env κs qs ! (reader-at s i₃) code.calls-records·reader·number (args ! 2 (19 ∷ []) (refl, tt)) (λ n₄ fit₄. land ! (from ! (stop !)) (init ! 11 refl (fit₄ .0)) $
+            assigns ! (of-opd ! (at ! 2 refl)) (from ! (stop !)) (init ! 21 refl ok₃) $ reads 𝓖 𝓡 code.env κs qs ! (reader-at s i₃) code.calls-numbers·reader·number (args ! 2 (19 ∷ []) (refl, tt)) (λ n₄ fit₄. land ! (from ! (stop !)) (init ! 11 refl (fit₄ .0)) $
             -- _10 = moved(_8, behind(_9))
-            assigns ! (of-opd ! (at ! 2 refl)) (from ! (stop !)) (init ! 22 refl ok₃) $ goes-on 𝓖 𝓡 code.env ! (read l i₃) n₄ code.calls-records·reader·behind (args ! 3 (9 ∷ []) (refl, tt)) (λ few₄. land ! (from ! (stop !)) (store ! 16 refl (tt, record { fits = few₄ })) $
-            moves 𝓖 𝓡 code.env κs qs ! (reader-at s i₃) i₄ few₄ code.calls-records·reader·moved (args ! 1 (20 ∷ 14 ∷ []) (refl, (refl, tt))) (λ ok₄. land ! (from ! (stop !)) (init ! 12 refl ok₄) $
+            assigns ! (of-opd ! (at ! 2 refl)) (from ! (stop !)) (init ! 22 refl ok₃) $ goes-on 𝓖 𝓡 code.env ! (read l i₃) n₄ code.calls-numbers·reader·behind (args ! 3 (9 ∷ []) (refl, tt)) (λ few₄. land ! (from ! (stop !)) (store ! 16 refl (tt, record { fits = few₄ })) $
+            moves 𝓖 𝓡 code.env κs qs ! (reader-at s i₃) i₄ few₄ code.calls-numbers·reader·moved (args ! 1 (20 ∷ 14 ∷ []) (refl, (refl, tt))) (λ ok₄. land ! (from ! (stop !)) (init ! 12 refl ok₄) $
             -- _11 = number(_10)
-            assigns ! (of-opd ! (at ! 2 refl)) (from ! (stop !)) (init ! 23 refl ok₄) $ reads 𝓖 𝓡 code.env κs qs ! (reader-at s i₄) code.calls-records·reader·number (args ! 2 (21 ∷ []) (refl, tt)) (λ n₅ fit₅. land ! (from ! (stop !)) (init ! 13 refl (fit₅ .0)) $
+            assigns ! (of-opd ! (at ! 2 refl)) (from ! (stop !)) (init ! 23 refl ok₄) $ reads 𝓖 𝓡 code.env κs qs ! (reader-at s i₄) code.calls-numbers·reader·number (args ! 2 (21 ∷ []) (refl, tt)) (λ n₅ fit₅. land ! (from ! (stop !)) (init ! 13 refl (fit₅ .0)) $
             -- _0 = head_of(_3, _5, _7, _9, _11)
             calls ! 𝓣 to-core tt tt (read l 0, (read l i₁, (read l i₂, (read l i₃, (read l i₄, tt))))) tt (n₁, (n₂, (n₃, (n₄, (n₅, tt))))) (factI 𝓤 _ _ (head-near l)) (args ! 4 (3 ∷ 5 ∷ 7 ∷ 9 ∷ 11 ∷ []) (refl, (refl, (refl, (refl, (refl, tt))))))
             (λ h ws. h ≡ headReadOf (headingOf (read l 0) (read l i₁) (read l i₂) (read l i₃) (read l i₄))) (λ h ws. id⊢ 𝓤 _) (λ h ws is ok e _.

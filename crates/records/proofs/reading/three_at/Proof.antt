@@ -8,8 +8,8 @@ use Rattle.lent.proofs.Held.{own-of}
 use Rattle.lent.proofs.Types as T
 use Rattle.records.specs.Answers.{threeOf, tripleOf}
 use Rattle.records.proofs.Carried.{read, on, three-near, triple-carried}
-use Rattle.records.proofs.Readers.{numbered, bytes, reader-opened}
-use Rattle.records.proofs.ReaderCalls.{reader-at, starts, reads, goes-on, moves}
+use Rattle.numbers.proofs.Readers.{numbered, bytes, reader-opened}
+use Rattle.numbers.proofs.ReaderCalls.{reader-at, starts, reads, goes-on, moves}
 use Rattle.records.proofs.reading.Three as Three
 use Rattle.records.proofs.reading.Three.Laws as Three′
 use Rattle.records.proofs.reading.three_of as core
@@ -39,21 +39,21 @@ module _ {M : Type 1} (𝓤 : URA M) (H : Heap 𝓤) (𝓜 : Model 𝓤 H) (𝓖
       heard ! (i₀ ≤ 1000000) (λ few. begins ! 𝓣 code.function _ P (λ l₀ l₁ l₂ l₃ l₄ l₅ l₆ l₇ l₈ l₉ l₁₀ l₁₁ l₁₂ l₁₃ l₁₄ l₁₅. (
         ok-args,
         -- [_0 … _15; that they die; κ; what the bytes own]
-        (move ! (17 ∷ 18 ∷ []) $ starts 𝓖 𝓡 code.env κs qs ! s code.calls-records·reader·new (args ! 1 (1 ∷ []) (refl, tt)) (λ ok. land ! (from ! (stop !)) (init ! 11 refl ok) $
+        (move ! (17 ∷ 18 ∷ []) $ starts 𝓖 𝓡 code.env κs qs ! s code.calls-numbers·reader·new (args ! 1 (1 ∷ []) (refl, tt)) (λ ok. land ! (from ! (stop !)) (init ! 11 refl ok) $
             -- [κ; what the reader owns; _0 … _15; that they die]
-            moves 𝓖 𝓡 code.env κs qs ! (reader-at s 0) i₀ (are .1 .0 .1) code.calls-records·reader·moved (args ! 1 (9 ∷ 2 ∷ []) (refl, (refl, tt))) (λ ok₀. land ! (from ! (stop !)) (init ! 5 refl ok₀) $
+            moves 𝓖 𝓡 code.env κs qs ! (reader-at s 0) i₀ (are .1 .0 .1) code.calls-numbers·reader·moved (args ! 1 (9 ∷ 2 ∷ []) (refl, (refl, tt))) (λ ok₀. land ! (from ! (stop !)) (init ! 5 refl ok₀) $
             -- _4 = number(_3)
-            assigns ! (of-opd ! (at ! 2 refl)) (from ! (stop !)) (init ! 12 refl ok₀) $ reads 𝓖 𝓡 code.env κs qs ! (reader-at s i₀) code.calls-records·reader·number (args ! 2 (10 ∷ []) (refl, tt)) (λ n₁ fit₁. land ! (from ! (stop !)) (init ! 6 refl (fit₁ .0)) $
+            assigns ! (of-opd ! (at ! 2 refl)) (from ! (stop !)) (init ! 12 refl ok₀) $ reads 𝓖 𝓡 code.env κs qs ! (reader-at s i₀) code.calls-numbers·reader·number (args ! 2 (10 ∷ []) (refl, tt)) (λ n₁ fit₁. land ! (from ! (stop !)) (init ! 6 refl (fit₁ .0)) $
             -- _5 = moved(_3, behind(_4))
-            assigns ! (of-opd ! (at ! 2 refl)) (from ! (stop !)) (init ! 13 refl ok₀) $ goes-on 𝓖 𝓡 code.env ! (read l i₀) n₁ code.calls-records·reader·behind (args ! 3 (4 ∷ []) (refl, tt)) (λ few₁. land ! (from ! (stop !)) (init ! 14 refl (tt, record { fits = few₁ })) $
-            moves 𝓖 𝓡 code.env κs qs ! (reader-at s i₀) i₁ few₁ code.calls-records·reader·moved (args ! 1 (11 ∷ 12 ∷ []) (refl, (refl, tt))) (λ ok₁. land ! (from ! (stop !)) (init ! 7 refl ok₁) $
+            assigns ! (of-opd ! (at ! 2 refl)) (from ! (stop !)) (init ! 13 refl ok₀) $ goes-on 𝓖 𝓡 code.env ! (read l i₀) n₁ code.calls-numbers·reader·behind (args ! 3 (4 ∷ []) (refl, tt)) (λ few₁. land ! (from ! (stop !)) (init ! 14 refl (tt, record { fits = few₁ })) $
+            moves 𝓖 𝓡 code.env κs qs ! (reader-at s i₀) i₁ few₁ code.calls-numbers·reader·moved (args ! 1 (11 ∷ 12 ∷ []) (refl, (refl, tt))) (λ ok₁. land ! (from ! (stop !)) (init ! 7 refl ok₁) $
             -- _6 = number(_5)
-            assigns ! (of-opd ! (at ! 2 refl)) (from ! (stop !)) (init ! 15 refl ok₁) $ reads 𝓖 𝓡 code.env κs qs ! (reader-at s i₁) code.calls-records·reader·number (args ! 2 (13 ∷ []) (refl, tt)) (λ n₂ fit₂. land ! (from ! (stop !)) (init ! 8 refl (fit₂ .0)) $
+            assigns ! (of-opd ! (at ! 2 refl)) (from ! (stop !)) (init ! 15 refl ok₁) $ reads 𝓖 𝓡 code.env κs qs ! (reader-at s i₁) code.calls-numbers·reader·number (args ! 2 (13 ∷ []) (refl, tt)) (λ n₂ fit₂. land ! (from ! (stop !)) (init ! 8 refl (fit₂ .0)) $
             -- _7 = moved(_5, behind(_6))
-            assigns ! (of-opd ! (at ! 2 refl)) (from ! (stop !)) (init ! 16 refl ok₁) $ goes-on 𝓖 𝓡 code.env ! (read l i₁) n₂ code.calls-records·reader·behind (args ! 3 (6 ∷ []) (refl, tt)) (λ few₂. land ! (from ! (stop !)) (store ! 14 refl (tt, record { fits = few₂ })) $
-            moves 𝓖 𝓡 code.env κs qs ! (reader-at s i₁) i₂ few₂ code.calls-records·reader·moved (args ! 1 (14 ∷ 12 ∷ []) (refl, (refl, tt))) (λ ok₂. land ! (from ! (stop !)) (init ! 9 refl ok₂) $
+            assigns ! (of-opd ! (at ! 2 refl)) (from ! (stop !)) (init ! 16 refl ok₁) $ goes-on 𝓖 𝓡 code.env ! (read l i₁) n₂ code.calls-numbers·reader·behind (args ! 3 (6 ∷ []) (refl, tt)) (λ few₂. land ! (from ! (stop !)) (store ! 14 refl (tt, record { fits = few₂ })) $
+            moves 𝓖 𝓡 code.env κs qs ! (reader-at s i₁) i₂ few₂ code.calls-numbers·reader·moved (args ! 1 (14 ∷ 12 ∷ []) (refl, (refl, tt))) (λ ok₂. land ! (from ! (stop !)) (init ! 9 refl ok₂) $
             -- _8 = number(_7)
-            assigns ! (of-opd ! (at ! 2 refl)) (from ! (stop !)) (init ! 17 refl ok₂) $ reads 𝓖 𝓡 code.env κs qs ! (reader-at s i₂) code.calls-records·reader·number (args ! 2 (15 ∷ []) (refl, tt)) (λ n₃ fit₃. land ! (from ! (stop !)) (init ! 10 refl (fit₃ .0)) $
+            assigns ! (of-opd ! (at ! 2 refl)) (from ! (stop !)) (init ! 17 refl ok₂) $ reads 𝓖 𝓡 code.env κs qs ! (reader-at s i₂) code.calls-numbers·reader·number (args ! 2 (15 ∷ []) (refl, tt)) (λ n₃ fit₃. land ! (from ! (stop !)) (init ! 10 refl (fit₃ .0)) $
             -- _0 = three_of(_4, _6, _8)
             calls ! 𝓣 to-core tt tt (read l i₀, (read l i₁, (read l i₂, tt))) tt (n₁, (n₂, (n₃, tt))) (factI 𝓤 _ _ (three-near l i₀ few)) (args ! 4 (4 ∷ 6 ∷ 8 ∷ []) (refl, (refl, (refl, tt))))
             (λ r ws. r ≡ threeOf (tripleOf (read l i₀) (read l i₁) (read l i₂))) (λ r ws. id⊢ 𝓤 _) (λ r ws is ok e _.

@@ -3,7 +3,7 @@ use mathlib.Core.Path.{ap}
 use native.Mathlib.Omega.{arith}
 use lib.ListN.{length}
 use borrow.Author.Needs.{needs}
-use Rattle.records.specs.Numbers.{written}
+use Rattle.numbers.specs.Numbers.{written}
 use Rattle.records.proofs.Puts.{segment-length, segment-put}
 use Rattle.records.proofs.writing.put_segment.Statement.{statement}
 use Rattle.records.proofs.writing.put_segment.Tie as tie
