@@ -1,4 +1,4 @@
--- From what `plans` and `drawn` answer to what the functions for C leave: one law for each case of an answer. Relies on plans' contracts and on Fronts.
+-- From what `plans` and `drawn` answer to what the functions for C leave: one law for each case of an answer. Relies on plans' contracts and on named's `Fronts`.
 use mathlib.Core.Path.{_≡_, refl, sym, ap, _∙_}
 use mathlib.Core.List.{List, [], _∷_}
 use Prim.Native.Nat.{ℕ}
@@ -15,9 +15,11 @@ use Rattle.records.specs.declared.writing.WriteAnswer.the-variants.{Written, Re
 use Rattle.plans.specs.Asked.{Plans, Rewrites, marginRead}
 use Rattle.plans.specs.declared.PlanAnswer.{PlanAnswer}
 use Rattle.plans.specs.declared.PlanAnswer.the-variants.{Planned, Refused as Unplanned}
-use Rattle.abi.specs.Numbers.{packed, marked, planNumber, writeNumber, marginNumber, treeNamed}
-use Rattle.abi.specs.Left.{front, twelve, summaryAfter, marginsOf, PlanLeaves, RewriteLeaves, MarginLeaves}
-use Rattle.abi.proofs.Fronts.{front-none}
+use Rattle.named.specs.Named.{packed, marked, treeNamed}
+use Rattle.named.specs.Lists.{front, twelve}
+use Rattle.named.proofs.Fronts.{front-none}
+use Rattle.abi.specs.Numbers.{planNumber, writeNumber, marginNumber}
+use Rattle.abi.specs.Left.{summaryOf, summaryAfter, marginsOf, PlanLeaves, RewriteLeaves, MarginLeaves}
 
 -- an answer v that is to be x, and is y: what is made of y is what is to be made of x
 pub told : {A B : Type 0} (f : A → B) {v x y : A} → v ≡ x → v ≡ y → f y ≡ f x
@@ -38,9 +40,9 @@ module _ {bytes l s w : List ℕ} {a : PlanAnswer} {l′ s′ w′ : List ℕ} (
   pub plan-refused : {r : Refusal} {x : ℕ} → a ≡ Unplanned r → x ≡ packed r → PlanLeaves bytes l s w d x l′ s′ w′ d
   plan-refused k e = leaves (e ∙ ap planNumber (sym k)) (sym (front-none d) ∙ ap (λ (b : PlanAnswer). summaryAfter b d) (sym k))
 
-  pub plan-planned : {h : Head} {m : ℕ} {u v y : Measured} {n : ℕ} {values d′ : List ℕ} → a ≡ Planned h m u v y n → values ≡ twelve (Planned h m u v y n) → d′ ≡ front values d
+  pub plan-planned : {h : Head} {m : ℕ} {u v y : Measured} {n : ℕ} {values d′ : List ℕ} → a ≡ Planned h m u v y n → values ≡ twelve h m u v y n → d′ ≡ front values d
       → PlanLeaves bytes l s w d 0 l′ s′ w′ d′
-  plan-planned k e f = leaves (ap planNumber (sym k)) (f ∙ ap (λ (b : List ℕ). front b d) (e ∙ ap twelve (sym k)))
+  plan-planned k e f = leaves (ap planNumber (sym k)) (f ∙ ap (λ (b : List ℕ). front b d) (e ∙ ap summaryOf (sym k)))
 
 -- REWRITE
 module _ {bytes room : List ℕ} {a : WriteAnswer} {x : List ℕ} (p : Rewrites bytes room a x) where

@@ -1,6 +1,4 @@
 -- Laws for the proofs of the functions for C, and what their contracts come to.
-pub mod Fronts
-pub mod Floats
 pub mod Table
 pub mod Answered
 pub mod Unique

@@ -37,7 +37,7 @@ use Rattle.drawn.specs.declared.Run.{Run}
 use Rattle.drawn.specs.declared.Answer.{Answer}
 use Rattle.drawn.specs.declared.Answer.the-variants.{Refused as Undrawn}
 use Rattle.drawn.proofs.Rules.{drawn-answers}
-use Rattle.abi.specs.Numbers.{mostNumber, packed}
+use Rattle.named.specs.Named.{mostNumber, packed}
 
 -- one of the numbers 1 to 19
 abbrev pub InTable : ℕ → Type 0

@@ -8,7 +8,8 @@ use lib.IntN.{ℤ}
 use Rattle.net.specs.declared.Refusal.{Refusal}
 use Rattle.drawn.specs.Drawn.{drawnOf}
 use Rattle.plans.specs.Asked.{recordRead, checkRead}
-use Rattle.abi.specs.Numbers.{packed, marked, checkNumber, drawnNumber, runNamed}
+use Rattle.named.specs.Named.{packed, marked, runNamed}
+use Rattle.abi.specs.Numbers.{checkNumber, drawnNumber}
 use Rattle.abi.specs.Left.{PlanLeaves, RewriteLeaves, MarginLeaves}
 
 pub check-one : (bytes : List ℕ) {r r₂ : ℕ} → r ≡ checkNumber (checkRead (recordRead bytes)) → r₂ ≡ checkNumber (checkRead (recordRead bytes)) → r ≡ r₂

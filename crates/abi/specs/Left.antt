@@ -1,10 +1,10 @@
 -- What the functions for C leave in what is lent to them. A list that is lent for some numbers takes as many of them as it has entries; its entries beyond them,
--- and after a refusal all of them, stay as they were. Relies on `Numbers` and on plans' `Asked`.
+-- and after a refusal all of them, stay as they were. Relies on `Numbers`, on named's `Named` and `Lists`, and on plans' `Asked`.
 use mathlib.Core.Path.{_≡_}
-use mathlib.Core.List.{List, [], _∷_, _++_}
+use mathlib.Core.List.{List, [], _∷_}
 use Prim.Native.Nat.{ℕ}
 use lib.IntN.{ℤ}
-use lib.ListN.{length, take, drop}
+use lib.ListN.{length}
 use Rattle.net.specs.declared.Tree.the-variants.{Lightest, Shortest, Between}
 use Rattle.looms.specs.Answers.{lentOf}
 use Rattle.margins.specs.declared.MarginAnswer.{MarginAnswer}
@@ -12,21 +12,18 @@ use Rattle.margins.specs.declared.MarginAnswer.the-variants.{Margin, Refused as
 use Rattle.plans.specs.Asked.{recordRead, planOf, treeList, rewriteOf, roomOf, marginRead}
 use Rattle.plans.specs.declared.PlanAnswer.{PlanAnswer}
 use Rattle.plans.specs.declared.PlanAnswer.the-variants.{Planned, Refused as Unplanned}
-use Rattle.abi.specs.Numbers.{planNumber, writeNumber, marginNumber, treeNamed}
+use Rattle.named.specs.Named.{treeNamed}
+use Rattle.named.specs.Lists.{front, twelve}
+use Rattle.abi.specs.Numbers.{planNumber, writeNumber, marginNumber}
 
--- some numbers at the front of a list, as far as it goes
-unfoldable pub front : {X : Type 0} → List X → List X → List X
-front v l = take (length l) v ++ drop (length v) l
-
--- PLAN: "posts, segments, source, ratio", then "length and radius of each tree and the count of laid paths"; none after a refusal
-abbrev pub twelve : PlanAnswer → List ℕ
-twelve (Planned h m l s b k) =
-    h .posts ∷ m ∷ h .source ∷ h .p ∷ h .q ∷ l .length ∷ l .radius ∷ s .length ∷ s .radius ∷ b .length ∷ b .radius ∷ k ∷ []
-twelve (Unplanned r) = []
+-- PLAN: the twelve numbers, for the front of a lent summary; none after a refusal
+abbrev pub summaryOf : PlanAnswer → List ℕ
+summaryOf (Planned h m l s b k) = twelve h m l s b k
+summaryOf (Unplanned r) = []
 
 -- a lent summary that held d, afterwards: the twelve numbers at its front
 abbrev pub summaryAfter : PlanAnswer → List ℕ → List ℕ
-summaryAfter a d = front (twelve a) d
+summaryAfter a d = front (summaryOf a) d
 
 -- what planning leaves, where the three lists held l, s and w and the summary d: the number r, and what they hold then
 pub record PlanLeaves (bytes l s w d : List ℕ) (r : ℕ) (l′ s′ w′ d′ : List ℕ) : Type 0 where

@@ -29,7 +29,8 @@ use Rattle.records.specs.declared.writing.WriteAnswer.{WriteAnswer}
 use Rattle.droverboot.specs.Reading.{Reads}
 use Rattle.plans.specs.Asked.{recordRead, Plans, Rewrites, marginRead, checkRead}
 use Rattle.plans.specs.declared.PlanAnswer.{PlanAnswer}
-use Rattle.abi.specs.Numbers.{checkNumber, drawnNumber, runNamed}
+use Rattle.named.specs.Named.{runNamed}
+use Rattle.abi.specs.Numbers.{checkNumber, drawnNumber}
 use Rattle.abi.specs.Left.{PlanLeaves, RewriteLeaves, MarginLeaves}
 use Rattle.drawn.specs.Drawn.{drawnOf}
 use Rattle.drawn.specs.declared.Run.{Run}

@@ -1,7 +1,7 @@
 -- `tree_named` meets its contract: one way out for each name. Assumes nothing.
 use borrow.Author.Tests.{eq-eqb, ne-eqb}
-use Rattle.abi.proofs.tree_named.Statement.{statement}
-use Rattle.abi.proofs.tree_named.Tie as tie
+use Rattle.named.proofs.tree_named.Statement.{statement}
+use Rattle.named.proofs.tree_named.Tie as tie
 
 returns : tie.Need-returns
 returns c = rw (eq-eqb _ _ (c .if1 .taken))

@@ -1,9 +1,9 @@
 -- `float_of` meets its contract: a pattern that is no not-a-number's, or the not-a-number. Assumes nothing.
 use mathlib.Core.Path.{_∙_}
-use Rattle.abi.proofs.Floats.{no-nan, nan-of, zero-by-zero}
+use Rattle.named.proofs.Floats.{no-nan, nan-of, zero-by-zero}
 use borrow.Author.Needs.{needs}
-use Rattle.abi.proofs.float_of.Statement.{statement}
-use Rattle.abi.proofs.float_of.Tie as tie
+use Rattle.named.proofs.float_of.Statement.{statement}
+use Rattle.named.proofs.float_of.Tie as tie
 
 float-from-bits-result : tie.Need-float-from-bits-result
 float-from-bits-result c = no-nan _ (c .if1 .taken)

@@ -1,8 +1,8 @@
 -- `run_named` meets its contract: a straight run, or a corner. Assumes nothing.
-use Rattle.abi.proofs.Floats.{straight-named, corner-named}
+use Rattle.named.proofs.Floats.{straight-named, corner-named}
 use borrow.Author.Needs.{needs}
-use Rattle.abi.proofs.run_named.Statement.{statement}
-use Rattle.abi.proofs.run_named.Tie as tie
+use Rattle.named.proofs.run_named.Statement.{statement}
+use Rattle.named.proofs.run_named.Tie as tie
 
 float-of-requires : tie.Need-float-of-requires
 float-of-requires c κs = search needs

@@ -9,7 +9,7 @@ use lib.Ieee.{Float, nan, inf, fin, binary64, isNan, nanBits, ofBits, div}
 use lib.Ieee.Bits.{nanBits-is, nanBits-above}
 use borrow.Author.Tests.{le-ltb, lt-ltb, eq-eqb, ne-eqb}
 use Rattle.drawn.specs.declared.Run.the-variants.{Straight, Corner}
-use Rattle.abi.specs.Numbers.{runNamed}
+use Rattle.named.specs.Named.{runNamed}
 
 -- the pattern without its sign
 abbrev sizeOf : ℕ → ℕ

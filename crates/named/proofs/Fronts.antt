@@ -7,7 +7,7 @@ use native.Mathlib.Omega.{arith}
 use lib.ListN.{length, getD, set, take, drop, length-take, length-append, length-drop, List·getD-append}
 use lib.Seq.{take-at, take-all, getD-take}
 use Rattle.net.proofs.Blend.{Over, over-none, over-more, over-all}
-use Rattle.abi.specs.Left.{front}
+use Rattle.named.specs.Lists.{front}
 
 -- no numbers change nothing
 pub front-none : {X : Type 0} (l : List X) → front [] l ≡ l

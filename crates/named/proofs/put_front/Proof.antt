@@ -1,10 +1,10 @@
 -- `put_front` meets its contract: the numbers stand at the list's front, one after the other, as far as it goes. Assumes nothing.
 use Prim.Native.Nat.{_-_}
-use Rattle.abi.proofs.Fronts.{Fronted, fronted-none, fronted-more, fronted-all}
+use Rattle.named.proofs.Fronts.{Fronted, fronted-none, fronted-more, fronted-all}
 use borrow.Author.Needs.{needs}
 use native.Mathlib.Omega.{arith}
-use Rattle.abi.proofs.put_front.Statement.{statement}
-use Rattle.abi.proofs.put_front.Tie as tie
+use Rattle.named.proofs.put_front.Statement.{statement}
+use Rattle.named.proofs.put_front.Tie as tie
 
 abbrev Inv-loop : tie.InvT-loop
 Inv-loop values list₀ n i₀ list i = Fronted values list₀ list n i

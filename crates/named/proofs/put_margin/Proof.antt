@@ -1,10 +1,10 @@
 -- `put_margin` meets its contract: the margin in the first entry, or an empty list as it was. Assumes nothing.
 use mir.Syntax.{w64}
 use mir.Facts.{toZ-ofZ}
-use Rattle.abi.proofs.Fronts.{front-one, front-nowhere}
+use Rattle.named.proofs.Fronts.{front-one, front-nowhere}
 use borrow.Author.Needs.{needs}
-use Rattle.abi.proofs.put_margin.Statement.{statement}
-use Rattle.abi.proofs.put_margin.Tie as tie
+use Rattle.named.proofs.put_margin.Statement.{statement}
+use Rattle.named.proofs.put_margin.Tie as tie
 
 slice-set-from-z : tie.Need-slice-set-from-z
 slice-set-from-z c = search needs
