@@ -6,7 +6,7 @@ use Rattle.net.proofs.Checks.{check-head-one, check-segment-one, check-one}
 use Rattle.lent.specs.Lists.{netOn}
 use Rattle.looms.proofs.Unique.{build-one}
 use Rattle.margins.proofs.Unique.{margin-one}
-use Rattle.numbers.proofs.Outcomes.{number-at-unique}
+use Rattle.numbers.proofs.Outcomes as numbers
 use Rattle.records.proofs.Outcomes.{read-array-unique, write-array-unique}
 use Rattle.droverboot.proofs.Unique.{read-one}
 use Rattle.plans.proofs.Unique as plans
@@ -44,7 +44,11 @@ unique =
       margin-array = one-margin;
       write-array = one-writing;
       read-array = λ bytes room. read-array-unique bytes room _ _;
-      number-at = λ bytes at. number-at-unique bytes at _ _;
+      number-at = λ bytes at. numbers.number-at-unique bytes at _ _;
+      put-number = λ n room. numbers.put-number-unique n room _ _;
+      reader-new = λ bytes. numbers.new-unique bytes _ _;
+      reader-number = λ r. numbers.number-unique r _ _;
+      reader-moved = λ r at. numbers.moved-unique r at _ _;
       check-head = check-head-one;
       check-segment = check-segment-one;
       check = check-one;

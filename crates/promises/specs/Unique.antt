@@ -1,11 +1,12 @@
 -- "For each, prove that two outcomes allowed by it are equal": of every entry, whatever is lent to it, two answers that its contract allows are equal, and so is
--- what every lent list holds afterwards. First the entries over lent lists, then those on records and for C, then those over arrays that stand below them. A contract
--- is cited as its function has it.
+-- what every lent list holds afterwards. First the entries over lent lists, then those on records and for C, then those over arrays and of a number that stand below them.
+-- A contract is cited as its function has it; of `put_number` that is the part that is handed back.
 use mathlib.Core.Path.{_≡_}
 use mathlib.Core.List.{List}
 use Prim.Native.Nat.{ℕ}
 use lib.IntN.{ℤ}
 use lib.ListN.{length}
+use denote.Ref.{RefT, now}
 use Rattle.net.specs.Net.{Net, every, segmentsOf}
 use Rattle.net.specs.Refusals.{checkedOf, first, headLines, segmentLines, checkOf}
 use Rattle.net.specs.Building.{marginOf}
@@ -22,7 +23,9 @@ use Rattle.numbers.specs.Numbers.{number}
 use Rattle.records.specs.Reading.{netRead}
 use Rattle.numbers.specs.Answers.{numberedOf}
 use Rattle.records.specs.Answers.{readArrayOf, Writes}
+use Rattle.numbers.specs.Putting.{partOf}
 use Rattle.numbers.specs.declared.Numbered.{Numbered}
+use Rattle.numbers.specs.declared.reader.Reader.{Reader}
 use Rattle.records.specs.declared.reading.ReadArray.{ReadArray}
 use Rattle.records.specs.declared.reading.ReadAnswer.{ReadAnswer}
 use Rattle.records.specs.declared.writing.WriteAnswer.{WriteAnswer}
@@ -76,7 +79,12 @@ pub record Unique : Type 0 where
   pub margin-array : (n : Net) (m : ℕ) → OneMargin n m
   pub write-array : (n : Net) (m : ℕ) → OneWriting n m
   pub read-array : (bytes : List ℕ) (room : ℕ) {a b : ReadArray} → a ≡ readArrayOf (netRead bytes room 0) → b ≡ readArrayOf (netRead bytes room 0) → a ≡ b
+  -- a number of a record, and a reader of it
   pub number-at : (bytes : List ℕ) (at : ℕ) {a b : Numbered} → a ≡ numberedOf (number bytes at) → b ≡ numberedOf (number bytes at) → a ≡ b
+  pub put-number : (n : ℕ) (room : List ℕ) {a b : List ℕ} → a ≡ partOf n room → b ≡ partOf n room → a ≡ b
+  pub reader-new : (bytes : RefT (List ℕ)) {a b : Reader} → a ≡ record { bytes = bytes; at = 0 } → b ≡ record { bytes = bytes; at = 0 } → a ≡ b
+  pub reader-number : (r : Reader) {a b : Numbered} → a ≡ numberedOf (number (now (r .bytes)) (r .at)) → b ≡ numberedOf (number (now (r .bytes)) (r .at)) → a ≡ b
+  pub reader-moved : (r : Reader) (at : ℕ) {a b : Reader} → a ≡ record { bytes = r .bytes; at = at } → b ≡ record { bytes = r .bytes; at = at } → a ≡ b
   -- checks 1 to 7
   pub check-head : (h : Head) (count : ℕ) {a b : Checked} → a ≡ checkedOf (first (headLines h count)) → b ≡ checkedOf (first (headLines h count)) → a ≡ b
   pub check-segment : (posts : ℕ) (s : Segment) (i : ℕ) {a b : Checked} → a ≡ checkedOf (first (segmentLines posts s i)) → b ≡ checkedOf (first (segmentLines posts s i)) → a ≡ b
