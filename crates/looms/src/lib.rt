@@ -1,5 +1,5 @@
 // Building: the three trees of a net, with their lengths and radii and the count of laid paths.
-// Over the head by value and the segments in an array of 2,048 places, of which the first `count` are the net's. Relies on `trees` and `shortest`.
+// Over the head by value and the segments in an array of 2,048 places, of which the first `count` are the net's. Relies on `checks`, `trees` and `shortest`.
 use net::Checked;
 use net::Head;
 use net::Refusal;
@@ -219,7 +219,7 @@ fn build_from(
     requires { ⌜ (size (now b) ≡ size (now a)) × (size (now lengths) ≡ size (now a)) ⌝ }
     ensures { λ r. ⌜ Leaves (netAt head (now (a .entry)) (now (b .entry)) (now (lengths .entry))) (size (segmentsOf (now (a .entry)) (now (b .entry)) (now (lengths .entry)))) (now (lightest .entry)) (now (shortest .entry)) (now (between .entry)) r (now (lightest .exit)) (now (shortest .exit)) (now (between .exit)) ⌝ }
 {
-    let says = net::check(head, a, b, lengths);
+    let says = checks::check(head, a, b, lengths);
     if let Checked::Refused(r) = says {
         return Answer::Refused(r);
     }
@@ -267,7 +267,7 @@ pub fn build(
 ) -> Answer
     ensures { λ r. ⌜ Leaves (netOf head count segments) count (now (lightest .entry)) (now (shortest .entry)) (now (between .entry)) r (now (lightest .exit)) (now (shortest .exit)) (now (between .exit)) ⌝ }
 {
-    let says = net::check_head(head, count);
+    let says = checks::check_head(head, count);
     if let Checked::Refused(r) = says {
         return Answer::Refused(r);
     }

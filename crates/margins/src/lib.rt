@@ -1,5 +1,5 @@
 // The margin of a post in a tree of a net: "(p + q) × D minus q × path in the tree".
-// Over the head by value and the segments in an array of 2,048 places, of which the first `count` are the net's. Relies on `trees` and `shortest`.
+// Over the head by value and the segments in an array of 2,048 places, of which the first `count` are the net's. Relies on `checks`, `trees` and `shortest`.
 use net::Checked;
 use net::Head;
 use net::Refusal;
@@ -233,7 +233,7 @@ fn margin_from(
     requires { ⌜ (size (now b) ≡ size (now a)) × (size (now lengths) ≡ size (now a)) ⌝ }
     ensures { λ r. ⌜ r ≡ marginAnswerOf (marginOf every (netAt head (now (a .entry)) (now (b .entry)) (now (lengths .entry))) (size (segmentsOf (now (a .entry)) (now (b .entry)) (now (lengths .entry)))) tree post) ⌝ }
 {
-    let says = net::check(head, a, b, lengths);
+    let says = checks::check(head, a, b, lengths);
     if let Checked::Refused(r) = says {
         return MarginAnswer::Refused(r);
     }
@@ -268,7 +268,7 @@ pub fn margin(
 ) -> MarginAnswer
     ensures { λ r. ⌜ r ≡ marginAnswerOf (marginOf every (netOf head count segments) count tree post) ⌝ }
 {
-    let says = net::check_head(head, count);
+    let says = checks::check_head(head, count);
     if let Checked::Refused(r) = says {
         return MarginAnswer::Refused(r);
     }

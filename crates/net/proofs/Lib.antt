@@ -1,4 +1,4 @@
--- The laws of a net's definitions, each file above only what it needs; the proofs of the checks in code stand beside them in folders.
+-- The laws of a net's definitions, each file above only what it needs.
 pub mod Words
 pub mod Sums
 pub mod Blend

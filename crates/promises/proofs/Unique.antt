@@ -2,7 +2,7 @@
 use Prim.Native.Nat.{ℕ}
 use lib.ListN.{length}
 use Rattle.net.specs.Net.{Net}
-use Rattle.net.proofs.Checks.{check-head-one, check-segment-one, check-one}
+use Rattle.checks.proofs.Unique.{check-head-one, check-segment-one, check-one}
 use Rattle.lent.specs.Lists.{netOn}
 use Rattle.looms.proofs.Unique.{build-one}
 use Rattle.margins.proofs.Unique.{margin-one}

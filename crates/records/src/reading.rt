@@ -1,12 +1,12 @@
 // Reading a record: the five head numbers, 1 to 4, 8, then each segment's three numbers and its 5, 6, 7, then 12. A reader carries the bytes from number to
 // number, in one pass; where a number is refused it stays, and the first refusal is the answer.
 // What is read stands in an array of its own, and a refusal leaves it zero: nothing is stored before the whole record is found good.
-use crate::checks::segment_refusal;
+use crate::refusals::segment_refusal;
+use checks::check_head;
 use net::Checked;
 use net::Head;
 use net::Refusal;
 use net::Segment;
-use net::check_head;
 use numbers::Numbered;
 use numbers::reader::behind;
 use numbers::reader::moved;

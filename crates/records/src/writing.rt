@@ -1,10 +1,10 @@
 // Writing a net's record. "Writing: 1 to 7, then 18": nothing is written before the whole net is found sound and the room long enough.
-use crate::checks::segment_refusal;
+use crate::refusals::segment_refusal;
+use checks::check_head;
 use net::Checked;
 use net::Head;
 use net::Refusal;
 use net::Segment;
-use net::check_head;
 use numbers::number_size;
 use numbers::put_at;
 ghost use mathlib.Core.Path.{_≡_};

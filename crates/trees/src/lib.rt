@@ -1,5 +1,5 @@
 // The trees of a net that nothing from 1 to 7 refuses, from its head by value and its segments as three slices side by side: what building and margin share.
-// Thin over `lightest`, `shortest` and `between`, and below `looms` and `margins`; asks what the checks of `net` have shown (`Ready`). `unpack` puts the first
+// Thin over `lightest`, `shortest` and `between`, and below `looms` and `margins`; asks what `checks` has shown (`Ready`). `unpack` puts the first
 // segments of an array into the three slices. The shortest tree is `shortest`'s own.
 use net::Head;
 use net::Segment;

@@ -6,8 +6,8 @@ use borrow.Author.Needs.{needs}
 use Rattle.net.specs.Refusals.{checkedOf}
 use Rattle.net.specs.Rules.{five, six, seven, nothing}
 use Rattle.records.proofs.Lines.{segment-only}
-use Rattle.records.proofs.checks.segment_refusal.Statement.{statement}
-use Rattle.records.proofs.checks.segment_refusal.Tie as tie
+use Rattle.records.proofs.refusals.segment_refusal.Statement.{statement}
+use Rattle.records.proofs.refusals.segment_refusal.Tie as tie
 
 refused-requires : tie.Need-refused-requires
 refused-requires c κs = search needs
