@@ -132,12 +132,24 @@ impl<'r> Right<'r> {
 /// The library as subject.
 pub struct Library<F> {
     functions: F,
+    every_length: bool,
 }
 
 impl<F: Functions> Library<F> {
     /// The library with these functions.
     pub fn new(functions: F) -> Self {
-        Library { functions }
+        Library {
+            functions,
+            every_length: true,
+        }
+    }
+
+    /// The same where a call is dear: without every length that can be drawn.
+    pub fn dear(functions: F) -> Self {
+        Library {
+            functions,
+            every_length: false,
+        }
     }
 
     fn compare_check(&self, right: &Right, counts: &mut Counts) -> Result<(), Difference> {
@@ -351,7 +363,12 @@ impl<F: Functions> Subject for Library<F> {
     }
 
     fn more_lots(&self) -> Vec<Lot<'_>> {
-        vec![self.border_lot(), self.length_lot(), self.cut_lot()]
+        let mut lots = vec![self.border_lot()];
+        if self.every_length {
+            lots.push(self.length_lot());
+        }
+        lots.push(self.cut_lot());
+        lots
     }
 
     fn refusals(&self) -> &[u32] {

@@ -4,13 +4,15 @@
 //! ```text
 //! differential PROGRAM [--cases N] [--threads N] [--seed N]
 //! differential --library [--cases N] [--threads N] [--seed N]
+//! differential --served SERVER [--cases N] [--threads N] [--seed N]
 //! differential --stand-in [--cases N] [--threads N] [--seed N]
 //! ```
 //!
 //! PROGRAM is run once per record, which it gets on standard input; what it
 //! prints must be, byte for byte, what the reference prints. `--library` compares
 //! the static library instead, every function of it, if the feature `library` is
-//! on. `--stand-in` compares functions made from the reference, to test the
+//! on. `--served` does so through SERVER, a program that serves these functions
+//! as `serve.c` says. `--stand-in` compares functions made from the reference, to test the
 //! comparison itself; the environment variable STAND_IN names a slip for them to
 //! make.
 //!
@@ -27,31 +29,37 @@ mod lent;
 mod library;
 mod program;
 mod run;
+mod served;
 mod stand_in;
 
 use std::env;
+use std::io::Error;
 use std::process::ExitCode;
 use std::time::{SystemTime, UNIX_EPOCH};
 
 use library::Library;
 use program::Program;
 use run::{compare_all, Options};
+use served::Served;
 use stand_in::StandIn;
 
 /// What is compared with the reference.
 enum Chosen {
     Program(String),
     Library,
+    Served(String),
     StandIn,
 }
 
-const USAGE: &str =
-    "usage: differential PROGRAM | --library | --stand-in [--cases N] [--threads N] [--seed N]";
+const USAGE: &str = "usage: differential PROGRAM | --library | --served SERVER | --stand-in \
+                     [--cases N] [--threads N] [--seed N]";
 
 /// Runs of a program when no number is given: each costs about a millisecond.
 const PROGRAM_CASES: u64 = 40_000;
 /// Cases of a library when no number is given: as many nets as damaged records.
 const LIBRARY_CASES: u64 = 40_000;
+/// Cases of a library that is served: a call costs a hundred times as much.
+const SERVED_CASES: u64 = 4_000;
 
 fn arguments() -> Option<(Chosen, Options)> {
     let mut chosen = None;
@@ -66,6 +74,7 @@ fn arguments() -> Option<(Chosen, Options)> {
             "--threads" => threads = usize::try_from(number()?).ok()?.max(1),
             "--seed" => seed = Some(number()?),
             "--library" if chosen.is_none() => chosen = Some(Chosen::Library),
+            "--served" if chosen.is_none() => chosen = Some(Chosen::Served(arguments.next()?)),
             "--stand-in" if chosen.is_none() => chosen = Some(Chosen::StandIn),
             path if chosen.is_none() && !path.starts_with("--") => {
                 chosen = Some(Chosen::Program(argument));
@@ -77,6 +86,7 @@ fn arguments() -> Option<(Chosen, Options)> {
     let cases = cases.unwrap_or(match chosen {
         Chosen::Program(_) => PROGRAM_CASES,
         Chosen::Library | Chosen::StandIn => LIBRARY_CASES,
+        Chosen::Served(_) => SERVED_CASES,
     });
     let options = Options {
         cases,
@@ -92,15 +102,24 @@ fn seed_from_the_clock() -> u64 {
         .map_or(0, |since| since.as_nanos() as u64 >> 10)
 }
 
+/// Says that a program couldn't be run. That isn't a difference.
+fn not_run(path: &str, error: &Error) -> ExitCode {
+    eprintln!("{path}: {error}");
+    ExitCode::from(2)
+}
+
 fn compare_program(path: &str, options: &Options) -> ExitCode {
     let program = Program::new(path);
-    // Whatever can't be run at all isn't a difference.
     match program.output(&[]) {
         Ok(_) => compare_all(&program, options),
-        Err(error) => {
-            eprintln!("{path}: {error}");
-            ExitCode::from(2)
-        }
+        Err(error) => not_run(path, &error),
+    }
+}
+
+fn compare_served(path: &str, options: &Options) -> ExitCode {
+    match Served::by(path) {
+        Ok(functions) => compare_all(&Library::dear(functions), options),
+        Err(error) => not_run(path, &error),
     }
 }
 
@@ -124,6 +143,7 @@ fn main() -> ExitCode {
     match arguments() {
         Some((Chosen::Program(path), options)) => compare_program(&path, &options),
         Some((Chosen::Library, options)) => compare_library(&options),
+        Some((Chosen::Served(path), options)) => compare_served(&path, &options),
         Some((Chosen::StandIn, options)) => compare_stand_in(&options),
         None => {
             eprintln!("{USAGE}");

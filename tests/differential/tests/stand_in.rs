@@ -74,6 +74,14 @@ fn what_cannot_be_run_is_no_difference() {
     assert_eq!(differential("", &["a", "--cases"]).status.code(), Some(2));
 }
 
+#[test]
+fn a_server_that_ends_is_a_difference() {
+    let ended = differential("", &["--served", "true"]);
+    assert_eq!(ended.status.code(), Some(1));
+    let nowhere = differential("", &["--served", "no-such-program-here"]);
+    assert_eq!(nowhere.status.code(), Some(2));
+}
+
 fn compared_functions(slip: &str, cases: &str) -> (Option<i32>, String) {
     let arguments = [
         "--stand-in",
