@@ -29,8 +29,19 @@ fn stop(archive: &Path, why: &str) -> ! {
     process::exit(1)
 }
 
+/// Says so where what is built can be checked but not linked.
+fn warn_of_other_processors() {
+    let processor = env::var("CARGO_CFG_TARGET_ARCH").unwrap_or_default();
+    if processor != "x86_64" {
+        println!(
+            "cargo:warning=the static library is for x86-64 and can't be linked for {processor}"
+        );
+    }
+}
+
 fn main() {
     println!("cargo:rerun-if-env-changed=DROVER_LIBRARY");
+    warn_of_other_processors();
     let given = archive();
     println!("cargo:rerun-if-changed={}", given.display());
     let Ok(archive) = given.canonicalize() else {

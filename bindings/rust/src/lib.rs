@@ -24,7 +24,8 @@
 //! number, and a place. No record, run or list makes a function fail otherwise.
 //!
 //! The crate links the archive that `rt staticlib abi` writes in its repository,
-//! or the one whose whole path the environment variable DROVER_LIBRARY gives.
+//! or the one whose whole path the environment variable DROVER_LIBRARY gives. It
+//! is for x86-64; for another processor the crate can be checked and not linked.
 
 #![deny(missing_docs)]
 #![deny(unsafe_op_in_unsafe_fn)]
