@@ -11,6 +11,7 @@ use Rattle.lines.specs.Text.{decimal, spaced, mst, spt, last, ratioText,
 use Rattle.lines.specs.Putting.{mostText}
 use Rattle.net.specs.Net.{mostPosts}
 use Rattle.net.specs.declared.Head.{Head}
+use Rattle.net.specs.declared.Measured.{Measured}
 use Rattle.lines.proofs.Digits.{decimal-short}
 
 -- AS SUMS
@@ -79,36 +80,36 @@ pub refused-30 : (number place : ℕ) → number < 4294967296 → place < 429496
 refused-30 n p hn hp = omega (arith, refused-length n p, spaced-11 n hn, spaced-11 p hp)
 
 -- the numbers of a built net's text have 32 bits, and its posts are few
-pub record Numbers (head : Head) (m ll lr sl sr bl br k : ℕ) : Type 0 where
+pub record Numbers (head : Head) (m : ℕ) (light short third : Measured) (k : ℕ) : Type 0 where
   pub posts : head .posts ≤ mostPosts
   pub source : head .source < 4294967296
   pub p : head .p < 4294967296
   pub q : head .q < 4294967296
   pub segments : m < 4294967296
-  pub lightest : (ll < 4294967296) × (lr < 4294967296)
-  pub shortest : (sl < 4294967296) × (sr < 4294967296)
-  pub between : (bl < 4294967296) × (br < 4294967296)
+  pub lightest : (light .length < 4294967296) × (light .radius < 4294967296)
+  pub shortest : (short .length < 4294967296) × (short .radius < 4294967296)
+  pub between : (third .length < 4294967296) × (third .radius < 4294967296)
   pub laid : k < 4294967296
 
-module _ (head : Head) (segments ll lr sl sr bl br laid : ℕ) (lightest shortest between : List ℕ) where
+module _ (head : Head) (segments : ℕ) (light short third : Measured) (laid : ℕ) (lightest shortest between : List ℕ) where
   -- the five lines together
   abbrev pub fiveLines : ℕ
   fiveLines =
       length (netLine (head .posts) segments (head .source) (head .p) (head .q))
-      + length (treeLine mst ll lr (head .posts) (head .source) lightest)
-      + length (treeLine spt sl sr (head .posts) (head .source) shortest)
-      + length (treeLine last bl br (head .posts) (head .source) between)
+      + length (treeLine mst (light .length) (light .radius) (head .posts) (head .source) lightest)
+      + length (treeLine spt (short .length) (short .radius) (head .posts) (head .source) shortest)
+      + length (treeLine last (third .length) (third .radius) (head .posts) (head .source) between)
       + length (laidLine laid)
 
-  pub five-short : Numbers head segments ll lr sl sr bl br laid → ((v : ℕ) → getD lightest v 0 < 65536) → ((v : ℕ) → getD shortest v 0 < 65536) →
+  pub five-short : Numbers head segments light short third laid → ((v : ℕ) → getD lightest v 0 < 65536) → ((v : ℕ) → getD shortest v 0 < 65536) →
       ((v : ℕ) → getD between v 0 < 65536) → fiveLines ≤ mostText
   five-short h el es eb =
       omega (
         arith,
         net-59 (head .posts) segments (head .source) (head .p) (head .q) (omega arith) (h .segments) (h .source) (h .p) (h .q),
-        tree-1563 mst ll lr (head .posts) (head .source) lightest (omega arith) (h .lightest .0) (h .lightest .1) (h .posts) el,
-        tree-1563 spt sl sr (head .posts) (head .source) shortest (omega arith) (h .shortest .0) (h .shortest .1) (h .posts) es,
-        tree-1563 last bl br (head .posts) (head .source) between (omega arith) (h .between .0) (h .between .1) (h .posts) eb,
+        tree-1563 mst (light .length) (light .radius) (head .posts) (head .source) lightest (omega arith) (h .lightest .0) (h .lightest .1) (h .posts) el,
+        tree-1563 spt (short .length) (short .radius) (head .posts) (head .source) shortest (omega arith) (h .shortest .0) (h .shortest .1) (h .posts) es,
+        tree-1563 last (third .length) (third .radius) (head .posts) (head .source) between (omega arith) (h .between .0) (h .between .1) (h .posts) eb,
         laid-16 laid (h .laid),
       )
 

@@ -6,7 +6,7 @@ use Prim.Native.Nat.{ℕ, zero, suc, _+_, _/_, _%_}
 use lib.Dec.{eqb, leb}
 use lib.ListN.{getD}
 use Rattle.net.specs.Words.{only}
-use Rattle.net.specs.Building.{BuildAnswer, built, refused, Measured}
+use Rattle.net.specs.Building.{BuildAnswer, built, refused}
 use Rattle.net.specs.declared.Head.{Head}
 
 -- A NUMBER: the digits of n in base ten, the highest first, at most k of them
@@ -78,10 +78,6 @@ laidLine count = laidWord ++ spaced count ++ newline
 -- "A refusal prints the single line `refused`, number and place, parted by spaces"
 unfoldable pub refusedLine : ℕ → ℕ → List ℕ
 refusedLine number place = refusedWord ++ spaced number ++ spaced place ++ newline
-
--- length and radius of a tree
-abbrev pub measuredAs : ℕ → ℕ → Measured
-measuredAs length radius = record { length = length; radius = radius }
 
 -- THE PROGRAM'S TEXT for what building a net of that many segments answers and for the three lists afterwards
 unfoldable pub programText : Head → ℕ → BuildAnswer → (lightest shortest between : List ℕ) → List ℕ

@@ -6,9 +6,10 @@ ghost use Prim.Native.Nat.{_+_, _≤_, _<_};
 ghost use lib.ListN.{length as size};
 ghost use Rattle.net.specs.Net.{mostPosts};
 ghost use Rattle.net.specs.Building.{built};
-ghost use Rattle.lines.specs.Text.{decimal, spaced, ratioText, netLine, entryText, entriesText, treeLine, laidLine, refusedLine, measuredAs, programText};
+ghost use Rattle.lines.specs.Text.{decimal, spaced, ratioText, netLine, entryText, entriesText, treeLine, laidLine, refusedLine, programText};
 ghost use Rattle.lines.specs.Putting.{Put, mostText};
 use net::Head;
+use net::Measured;
 
 // One byte.
 fn put_byte(byte: u8, out: &mut [u8], at: usize) -> usize
@@ -121,22 +122,21 @@ fn put_entries(posts: usize, source: usize, entries: &[u16], out: &mut [u8], at:
 // "Tree lines: length, radius, then the entries"
 fn put_tree_line(
     name: &[u8],
-    length: u32,
-    radius: u32,
+    measured: Measured,
     head: Head,
     entries: &[u16],
     out: &mut [u8],
     at: usize,
 ) -> usize
     requires { ⌜ head .posts ≤ size (now entries) ⌝ }
-    requires { ⌜ at + size (treeLine (now name) length radius (head .posts) (head .source) (now entries)) ≤ size (now out) ⌝ }
-    ensures { λ r. ⌜ Put (treeLine (now (name .entry)) length radius (head .posts) (head .source) (now (entries .entry))) at (now (out .entry)) (now (out .exit)) r ⌝ }
+    requires { ⌜ at + size (treeLine (now name) (measured .length) (measured .radius) (head .posts) (head .source) (now entries)) ≤ size (now out) ⌝ }
+    ensures { λ r. ⌜ Put (treeLine (now (name .entry)) (measured .length) (measured .radius) (head .posts) (head .source) (now (entries .entry))) at (now (out .entry)) (now (out .exit)) r ⌝ }
 {
     let posts = head.posts as usize;
     let source = head.source as usize;
     let after_name = put_bytes(name, out, at);
-    let after_length = put_spaced(length, out, after_name);
-    let after_radius = put_spaced(radius, out, after_length);
+    let after_length = put_spaced(measured.length, out, after_name);
+    let after_radius = put_spaced(measured.radius, out, after_length);
     let after_entries = put_entries(posts, source, entries, out, after_radius);
     put_byte(b'\n', out, after_entries)
 }
@@ -162,16 +162,14 @@ fn put_refused_line(number: u32, place: u32, out: &mut [u8], at: usize) -> usize
     put_byte(b'\n', out, after_place)
 }
 
-// What the program prints for a built net, at the front of the room: five lines. The answer is how many bytes they are.
+// What the program prints for a built net, at the front of the room: five lines. `light`, `short` and `third` are length and radius of the three trees. The
+// answer is how many bytes the lines are.
 pub fn put_built(
     head: Head,
     segments: u32,
-    lightest_length: u32,
-    lightest_radius: u32,
-    shortest_length: u32,
-    shortest_radius: u32,
-    between_length: u32,
-    between_radius: u32,
+    light: Measured,
+    short: Measured,
+    third: Measured,
     laid: u32,
     lightest: &[u16],
     shortest: &[u16],
@@ -181,36 +179,12 @@ pub fn put_built(
     requires { ⌜ head .posts ≤ mostPosts ⌝ }
     requires { ⌜ (head .posts ≤ size (now lightest)) × (head .posts ≤ size (now shortest)) × (head .posts ≤ size (now between)) ⌝ }
     requires { ⌜ mostText ≤ size (now out) ⌝ }
-    ensures { λ r. ⌜ Put (programText head segments (built (measuredAs «lightest_length» «lightest_radius») (measuredAs «shortest_length» «shortest_radius») (measuredAs «between_length» «between_radius») laid) (now (lightest .entry)) (now (shortest .entry)) (now (between .entry))) 0 (now (out .entry)) (now (out .exit)) r ⌝ }
+    ensures { λ r. ⌜ Put (programText head segments (built light short third laid) (now (lightest .entry)) (now (shortest .entry)) (now (between .entry))) 0 (now (out .entry)) (now (out .exit)) r ⌝ }
 {
     let after_net = put_net_line(head, segments, out, 0);
-    let after_lightest = put_tree_line(
-        b"mst",
-        lightest_length,
-        lightest_radius,
-        head,
-        lightest,
-        out,
-        after_net,
-    );
-    let after_shortest = put_tree_line(
-        b"spt",
-        shortest_length,
-        shortest_radius,
-        head,
-        shortest,
-        out,
-        after_lightest,
-    );
-    let after_between = put_tree_line(
-        b"last",
-        between_length,
-        between_radius,
-        head,
-        between,
-        out,
-        after_shortest,
-    );
+    let after_lightest = put_tree_line(b"mst", light, head, lightest, out, after_net);
+    let after_shortest = put_tree_line(b"spt", short, head, shortest, out, after_lightest);
+    let after_between = put_tree_line(b"last", third, head, between, out, after_shortest);
     put_laid_line(laid, out, after_between)
 }
 

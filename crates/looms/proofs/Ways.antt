@@ -16,6 +16,7 @@ use Rattle.net.specs.Rules as R
 use Rattle.net.specs.Trees.{leastLengths, whole, radius}
 use Rattle.net.specs.Building.{lightestOf, shortestOf, betweenOf, laidOf, treeOf, joinedToSource, buildRefusal, measured, buildAnswer, buildOf, listAfter, afterBuild}
 use Rattle.net.specs.declared.Head.{Head}
+use Rattle.net.specs.declared.Measured.{Measured}
 use Rattle.net.specs.declared.Segment.{Segment}
 use Rattle.net.specs.declared.Refusal.{Refusal}
 use Rattle.net.specs.declared.Checked.{Checked}
@@ -30,7 +31,6 @@ use Rattle.net.proofs.Segments.{length-segments}
 use Rattle.trees.specs.Ready.{netAt, Ready}
 use Rattle.trees.proofs.Joined.{table-apart, table-joined}
 use Rattle.looms.specs.Answers.{measuredIn, lentOf, Leaves, BuiltAll}
-use Rattle.looms.specs.declared.Measured.{Measured}
 use Rattle.looms.specs.declared.Answer.{Answer}
 use Rattle.looms.specs.declared.Answer.the-variants.{Built, Refused}
 

@@ -8,31 +8,23 @@ use Rattle.net.specs.Net.{Net, every}
 use Rattle.net.specs.Refusals.{Lent}
 use Rattle.net.specs.Trees.{whole, radius}
 use Rattle.net.specs.Building.{BuildAnswer, built, refused, buildOf, buildAnswer, listAfter, afterBuild}
-use Rattle.net.specs.Building as B
+use Rattle.net.specs.declared.Measured.{Measured}
 use Rattle.net.specs.declared.Tree.the-variants.{Lightest, Shortest, Between}
-use Rattle.looms.specs.declared.Measured.{Measured}
 use Rattle.looms.specs.declared.Answer.{Answer}
 use Rattle.looms.specs.declared.Answer.the-variants.{Built, Refused}
 
--- length and radius
-abbrev pub measuredOf : B.Measured → Measured
-measuredOf m = record { length = m .length; radius = m .radius }
-
--- those of a tree list of a net
+-- length and radius of a tree list of a net
 abbrev pub measuredIn : Net → List ℕ → Measured
 measuredIn n t = record { length = whole (n .segments) (n .head .posts) t; radius = radius (n .segments) (n .head .posts) t }
 
 -- what building answers in the code's enum
 abbrev pub answerOf : BuildAnswer → Answer
-answerOf (built l s b k) = Built (measuredOf l) (measuredOf s) (measuredOf b) k
+answerOf (built l s b k) = Built l s b k
 answerOf (refused r) = Refused r
 
 -- and what an answer of building says in document 01's terms
-abbrev pub measuredSays : Measured → B.Measured
-measuredSays m = record { length = m .length; radius = m .radius }
-
 abbrev pub saysOf : Answer → BuildAnswer
-saysOf (Built l s b k) = built (measuredSays l) (measuredSays s) (measuredSays b) k
+saysOf (Built l s b k) = built l s b k
 saysOf (Refused r) = refused r
 
 -- how many entries three lists have

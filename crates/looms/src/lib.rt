@@ -2,6 +2,7 @@
 // Over the head by value and the segments in an array of 2,048 places, of which the first `count` are the net's. Relies on `checks`, `trees` and `shortest`.
 use net::Checked;
 use net::Head;
+use net::Measured;
 use net::Refusal;
 use net::Segment;
 ghost use mathlib.Core.Path.{_≡_};
@@ -13,12 +14,6 @@ ghost use Rattle.net.specs.Refusals.{refusal};
 ghost use Rattle.trees.specs.Ready.{netAt, Ready, Worked};
 ghost use Rattle.looms.specs.Answers.{measuredIn, BuiltAll, Leaves};
 ghost use Rattle.looms.specs.declared.Answer.the-variants.{Built, Refused};
-
-// Length and radius of a tree.
-pub struct Measured {
-    pub length: u32,
-    pub radius: u32,
-}
 
 // "An answer is either a result or a refusal with its number and its place."
 pub enum Answer {

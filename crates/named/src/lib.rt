@@ -1,10 +1,10 @@
 // How the library for C says things in numbers: a refusal in one number, the twelve numbers of a plan, a tree and a drawn run by the numbers that name them, and
-// numbers put at the front of a lent list. What each function promises is an equation with a definition of specs/. Relies on `net` for a refusal, a head and a
-// tree, on `looms` for length and radius, and on `drawn` for a run. The crate `abi` stands on it; `mark` asks for a number of the table of refusals, and nothing
-// else here asks anything.
+// numbers put at the front of a lent list. What each function promises is an equation with a definition of specs/. Relies on `net` for a refusal, a head, a
+// tree, and length and radius, and on `drawn` for a run. The crate `abi` stands on it; `mark` asks for a number of the table of refusals, and nothing else here
+// asks anything.
 use drawn::Run;
-use looms::Measured;
 use net::Head;
+use net::Measured;
 use net::Refusal;
 use net::Tree;
 ghost use mathlib.Core.Path.{_≡_};

@@ -10,6 +10,7 @@ use Rattle.net.specs.Net.{Net}
 use Rattle.net.specs.Refusals.{Lent, first, netLines, lentLines, joinedLines, postLines}
 use Rattle.net.specs.Trees.{at, joined, leastLengths, lightest, shortest, pathIn, radius, whole, marginBy}
 use Rattle.net.specs.Walk.{Notes, Given, atStart, walk}
+use Rattle.net.specs.declared.Measured.{Measured}
 use Rattle.net.specs.declared.Refusal.{Refusal}
 use Rattle.net.specs.declared.Tree.{Tree}
 use Rattle.net.specs.declared.Tree.the-variants.{Lightest, Shortest, Between}
@@ -62,12 +63,7 @@ module _ (ok : ℕ → Bool) (n : Net) where
   unfoldable pub marginRefusal : ℕ → ℕ → Option Refusal
   marginRefusal m post = first (netLines ok m n ++ (joinedLines (n .head .posts) joinedToSource ++ postLines (n .head .posts) post))
 
--- ANSWERS. length and radius of a tree
-pub record Measured : Type 0 where
-  pub length : ℕ
-  pub radius : ℕ
-
--- "length and radius of each tree and the count of laid paths", or a refusal
+-- ANSWERS. "length and radius of each tree and the count of laid paths", or a refusal
 pub data BuildAnswer : Type 0 where
   built : (lightest shortest between : Measured) (laid : ℕ) → BuildAnswer
   refused : Refusal → BuildAnswer
@@ -77,6 +73,7 @@ pub data MarginAnswer : Type 0 where
   refused : Refusal → MarginAnswer
 
 module _ (ok : ℕ → Bool) (n : Net) where
+  -- length and radius of one of the trees
   unfoldable pub measured : Tree → Measured
   measured t =
       record {

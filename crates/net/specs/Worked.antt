@@ -7,8 +7,9 @@ use lib.IntN.{pos, negsuc}
 use Rattle.net.specs.Net.{Net, every}
 use Rattle.net.specs.Refusals.{Lent, refusal}
 use Rattle.net.specs.Trees.{pathIn}
-use Rattle.net.specs.Building.{BuildAnswer, built, refused, MarginAnswer, margin, Measured, buildOf, afterBuild, marginOf, treeOf, walkOf}
+use Rattle.net.specs.Building.{BuildAnswer, built, refused, MarginAnswer, margin, buildOf, afterBuild, marginOf, treeOf, walkOf}
 use Rattle.net.specs.Building as B
+use Rattle.net.specs.declared.Measured.{Measured}
 use Rattle.net.specs.declared.Segment.{Segment}
 use Rattle.net.specs.declared.Tree.{Tree}
 use Rattle.net.specs.declared.Tree.the-variants.{Lightest, Shortest, Between}

@@ -35,6 +35,12 @@ pub struct Refusal {
     pub place: u32,
 }
 
+// Length and radius of a tree.
+pub struct Measured {
+    pub length: u32,
+    pub radius: u32,
+}
+
 // One of the three trees, by its name.
 pub enum Tree {
     Lightest,

@@ -11,17 +11,17 @@ use Rattle.net.specs.Refusals.{Lent}
 use Rattle.net.specs.Building.{BuildAnswer, built, lightestOf, shortestOf, betweenOf, walkOf, treeOf, buildRefusal, measured, buildAnswer, buildOf, listAfter, afterBuild}
 use Rattle.net.specs.Building as B
 use Rattle.net.specs.declared.Head.{Head}
+use Rattle.net.specs.declared.Measured.{Measured}
 use Rattle.net.specs.declared.Refusal.{Refusal}
 use Rattle.net.specs.declared.Tree.the-variants.{Lightest, Shortest, Between}
 use Rattle.net.proofs.Refusals.{accepted}
 use Rattle.net.proofs.Sound.{lightest-tree, shortest-tree, between-tree}
-use Rattle.looms.specs.Answers.{measuredOf, lentOf}
-use Rattle.looms.specs.declared.Measured.{Measured}
+use Rattle.looms.specs.Answers.{lentOf}
 use Rattle.numbers.specs.Numbers.{Got, got, refused}
 use Rattle.plans.specs.Asked.{recordRead, plannedWith, planOf, treeList, Plans}
 use Rattle.plans.specs.declared.PlanAnswer.{PlanAnswer}
 use Rattle.plans.specs.declared.PlanAnswer.the-variants.{Planned, Refused}
-use Rattle.lines.specs.Text.{refusedLine, measuredAs, programText}
+use Rattle.lines.specs.Text.{refusedLine, programText}
 use Rattle.lines.specs.Putting.{Put}
 use Rattle.lines.proofs.Meaning.{text-front}
 use Rattle.planner.specs.Printed.{lists, linesFor, printed}
@@ -56,8 +56,7 @@ module _ (n : Net) (taken : buildRefusal every n (length (n .segments)) lists �
 
 -- what is printed of a plan
 abbrev linesOf : Head → ℕ → Measured → Measured → Measured → ℕ → List ℕ → List ℕ → List ℕ → List ℕ
-linesOf h m x y z k l s w =
-    programText h m (built (measuredAs (x .length) (x .radius)) (measuredAs (y .length) (y .radius)) (measuredAs (z .length) (z .radius)) k) l s w
+linesOf h m x y z k l s w = programText h m (built x y z k) l s w
 
 -- A PLAN, where the three lists held l, s and w, of as many entries as a net may have posts
 module _ (l s w : List ℕ) (el : length l ≡ mostPosts) (es : length s ≡ mostPosts) (ew : length w ≡ mostPosts) where

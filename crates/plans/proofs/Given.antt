@@ -9,13 +9,13 @@ use lib.Seq.{take-append-seam}
 use Rattle.net.specs.Net.{Net, netOf, every}
 use Rattle.net.specs.Building.{BuildAnswer, built, refused, buildOf, marginOf}
 use Rattle.net.specs.declared.Head.{Head}
+use Rattle.net.specs.declared.Measured.{Measured}
 use Rattle.net.specs.declared.Segment.{Segment}
 use Rattle.net.specs.declared.Refusal.{Refusal}
 use Rattle.net.specs.declared.Tree.{Tree}
 use Rattle.net.specs.declared.Checked.the-variants.{Sound, Refused as Unsound}
 use Rattle.looms.specs.Answers.{answerOf, lentOf, Leaves}
 use Rattle.margins.specs.Answers.{marginAnswerOf}
-use Rattle.looms.specs.declared.Measured.{Measured}
 use Rattle.looms.specs.declared.Answer.{Answer}
 use Rattle.looms.specs.declared.Answer.the-variants.{Built, Refused as Unbuilt}
 use Rattle.margins.specs.declared.MarginAnswer.{MarginAnswer}

@@ -13,7 +13,7 @@ use Rattle.net.specs.declared.Tree.{Tree}
 use Rattle.net.specs.declared.Tree.the-variants.{Lightest, Shortest, Between}
 use Rattle.net.specs.declared.Checked.{Checked}
 use Rattle.net.specs.declared.Checked.the-variants.{Sound, Refused as Unsound}
-use Rattle.looms.specs.Answers.{measuredOf, lentOf}
+use Rattle.looms.specs.Answers.{lentOf}
 use Rattle.margins.specs.Answers.{marginAnswerOf}
 use Rattle.margins.specs.declared.MarginAnswer.{MarginAnswer}
 use Rattle.numbers.specs.Numbers.{Got, got, refused as unread}
@@ -31,7 +31,7 @@ recordRead bytes = netRead bytes mostSegments 0
 
 -- PLAN: what building answers, with a head and a number of segments
 abbrev pub plannedWith : Head → ℕ → BuildAnswer → PlanAnswer
-plannedWith h m (built l s b k) = Planned h m (measuredOf l) (measuredOf s) (measuredOf b) k
+plannedWith h m (built l s b k) = Planned h m l s b k
 plannedWith h m (refused r) = Refused r
 
 -- of the net that was read, with its head and the number of its segments; or the refusal of reading

@@ -6,10 +6,9 @@ use lib.ListN.{length}
 use Rattle.net.specs.Net.{Net, every}
 use Rattle.net.specs.Refusals.{Lent}
 use Rattle.net.specs.Building.{BuildAnswer, built, refused, buildOf}
-use Rattle.net.specs.Building as B
 use Rattle.net.specs.declared.Head.{Head}
+use Rattle.net.specs.declared.Measured.{Measured}
 use Rattle.net.specs.declared.Refusal.{Refusal}
-use Rattle.looms.specs.Answers.{measuredSays}
 use Rattle.numbers.specs.Numbers.{Got, got, refused as unread}
 use Rattle.records.specs.Writing.{netWritten, writeRefusal}
 use Rattle.records.specs.Answers.{Said, result, refusal-of, saidSize}
@@ -20,15 +19,14 @@ use Rattle.plans.specs.declared.PlanAnswer.the-variants.{Planned, Refuse
 pub record Plan : Type 0 where
   pub head : Head
   pub count : ℕ
-  pub lightest : B.Measured
-  pub shortest : B.Measured
-  pub between : B.Measured
+  pub lightest : Measured
+  pub shortest : Measured
+  pub between : Measured
   pub laid : ℕ
 
 -- "An answer is either a result or a refusal with its number and its place."
 abbrev pub saysPlanned : PlanAnswer → Said Plan
-saysPlanned (Planned h m l s b k) =
-    result (record { head = h; count = m; lightest = measuredSays l; shortest = measuredSays s; between = measuredSays b; laid = k })
+saysPlanned (Planned h m l s b k) = result (record { head = h; count = m; lightest = l; shortest = s; between = b; laid = k })
 saysPlanned (Refused r) = refusal-of r
 
 -- what building answers, with a head and a number of segments

@@ -2,11 +2,11 @@
 // that was read; a refusal of reading is the answer, and then nothing lent is changed. None asks anything of what is lent. Thin over `records`, `looms` and `margins`;
 // the program and the library for C stand on it.
 use looms::Answer;
-use looms::Measured;
 use margins::MarginAnswer;
 use net::Checked;
 use net::Head;
 use net::MOST_SEGMENTS;
+use net::Measured;
 use net::Refusal;
 use net::Segment;
 use net::Tree;

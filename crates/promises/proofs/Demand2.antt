@@ -12,7 +12,8 @@ use Rattle.net.specs.Net.{Net, every}
 use Rattle.net.specs.Rules.{NetSound, AllJoined}
 use Rattle.net.specs.Trees.{IsTree, pathIn, marginBy}
 use Rattle.net.specs.Building as B
-use Rattle.net.specs.Building.{Measured, built, lightestOf, shortestOf, betweenOf, walkOf, treeOf, measured, buildAnswer, marginRefusal, marginIn, marginAnswer, marginOf}
+use Rattle.net.specs.Building.{built, lightestOf, shortestOf, betweenOf, walkOf, treeOf, measured, buildAnswer, marginRefusal, marginIn, marginAnswer, marginOf}
+use Rattle.net.specs.declared.Measured.{Measured}
 use Rattle.net.specs.declared.Segment.{Segment}
 use Rattle.net.specs.declared.Refusal.{Refusal}
 use Rattle.net.specs.declared.Tree.{Tree}

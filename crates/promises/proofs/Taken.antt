@@ -7,7 +7,8 @@ use native.Mathlib.Omega.{arith}
 use lib.ListN.{length, drop}
 use Rattle.net.specs.Net.{Net, every}
 use Rattle.net.specs.Rules.{NetSound, AllJoined}
-use Rattle.net.specs.Building.{Measured, BuildAnswer, built, refused, treeOf, buildRefusal, buildAnswer, buildOf, listAfter, afterBuild}
+use Rattle.net.specs.Building.{BuildAnswer, built, refused, treeOf, buildRefusal, buildAnswer, buildOf, listAfter, afterBuild}
+use Rattle.net.specs.declared.Measured.{Measured}
 use Rattle.net.specs.declared.Refusal.{Refusal}
 use Rattle.net.specs.declared.Tree.{Tree}
 use Rattle.net.specs.declared.Tree.the-variants.{Lightest, Shortest, Between}

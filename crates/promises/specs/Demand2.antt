@@ -14,13 +14,14 @@ use lib.Signed.{ltZ}
 use lib.Ieee.{Float}
 use lib.ListN.{length, take, drop}
 use Rattle.net.specs.declared.Head.{Head}
+use Rattle.net.specs.declared.Measured.{Measured}
 use Rattle.net.specs.declared.Segment.{Segment}
 use Rattle.net.specs.declared.Tree.{Tree}
 use Rattle.net.specs.declared.Tree.the-variants.{Shortest, Between}
 use Rattle.net.specs.Net.{Net, every, lengthAt}
 use Rattle.net.specs.Trees.{at, IsLeast, HangsBy, ExactlyBelonging, IsTree, entry, pathIn, whole, radius}
 use Rattle.net.specs.Walk.{atStart, walk}
-use Rattle.net.specs.Building.{Measured, built, lightestOf, leastLengthsOf, shortestOf, betweenOf, laidOf, givenWith, walkOf, treeOf, marginOf}
+use Rattle.net.specs.Building.{built, lightestOf, leastLengthsOf, shortestOf, betweenOf, laidOf, givenWith, walkOf, treeOf, marginOf}
 use Rattle.net.specs.Building as B
 use Rattle.lent.specs.Lists.{netOn}
 use Rattle.looms.specs.Answers.{Leaves, saysOf}

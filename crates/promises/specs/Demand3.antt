@@ -7,10 +7,11 @@ use mathlib.Core.List.{List}
 use Prim.Native.Nat.{ℕ, _+_, _*_, _≤_, _<_}
 use lib.ListN.{length, take}
 use Rattle.net.specs.declared.Head.{Head}
+use Rattle.net.specs.declared.Measured.{Measured}
 use Rattle.net.specs.declared.Segment.{Segment}
 use Rattle.net.specs.Net.{Net, every, lengthAt, Route, routeLength, weigh, setLength, JoinsAll, SpanningTree}
 use Rattle.net.specs.Trees.{at, IsLeast, IsTree, pathIn, whole}
-use Rattle.net.specs.Building.{Measured, built, lightestOf, leastLengthsOf, laidOf}
+use Rattle.net.specs.Building.{built, lightestOf, leastLengthsOf, laidOf}
 use Rattle.lent.specs.Lists.{netOn}
 use Rattle.looms.specs.Answers.{Leaves, saysOf}
 use Rattle.looms.specs.declared.Answer.{Answer}

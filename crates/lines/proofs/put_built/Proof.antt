@@ -11,9 +11,9 @@ use Rattle.lines.proofs.put_built.Statement.{statement}
 use Rattle.lines.proofs.put_built.Tie as tie
 
 -- all five lines fit
-fits : (p : tie.After-shared-slice-known3) → fiveLines (p .before .before .before .args .head) (p .before .before .before .args .segments) (p .before .before .before .args .lightest-length) (p .before .before .before .args .lightest-radius) (p .before .before .before .args .shortest-length) (p .before .before .before .args .shortest-radius) (p .before .before .before .args .between-length) (p .before .before .before .args .between-radius) (p .before .before .before .args .laid) (p .before .before .before .args .lightest .now) (p .before .before .before .args .shortest .now) (p .before .before .before .args .between .now) ≤ mostText
+fits : (p : tie.After-shared-slice-known3) → fiveLines (p .before .before .before .args .head) (p .before .before .before .args .segments) (p .before .before .before .args .light) (p .before .before .before .args .short) (p .before .before .before .args .third) (p .before .before .before .args .laid) (p .before .before .before .args .lightest .now) (p .before .before .before .args .shortest .now) (p .before .before .before .args .between .now) ≤ mostText
 fits p =
-    five-short _ _ _ _ _ _ _ _ _ _ _ _ (omega arith) (λ v. omega (arith, p .before .before .shared-slice-known .given v))
+    five-short _ _ _ _ _ _ _ _ _ (omega arith) (λ v. omega (arith, p .before .before .shared-slice-known .given v))
     (λ v. omega (arith, p .before .shared-slice-known2 .given v)) (λ v. omega (arith, p .shared-slice-known3 .given v))
 
 put-net-line-requires : tie.Need-put-net-line-requires

@@ -9,43 +9,43 @@ use Rattle.io.proofs.read_full.Reads as read-full-reads
 use Rattle.io.proofs.write_all.Reads as write-all-reads
 use Rattle.planner.proofs.text.Reads as text-reads
 
--- src/main.rt:61:41
+-- src/main.rt:46:41
 slice-aggregate-read-full : tie.Need-slice-aggregate-read-full
 slice-aggregate-read-full c = search needs
 
--- src/main.rt:61:9
+-- src/main.rt:46:9
 read-full-requires : tie.Need-read-full-requires
 read-full-requires c κs = search needs
 
--- src/main.rt:63:18
+-- src/main.rt:48:18
 array-share-prefix-input : tie.Need-array-share-prefix-input
 array-share-prefix-input c = search needs
 
--- src/main.rt:63:18
+-- src/main.rt:48:18
 slice-aggregate-text : tie.Need-slice-aggregate-text
 slice-aggregate-text c = search needs
 
--- src/main.rt:63:31
+-- src/main.rt:48:31
 slice-aggregate-text-2 : tie.Need-slice-aggregate-text-2
 slice-aggregate-text-2 c = search needs
 
--- src/main.rt:63:9
+-- src/main.rt:48:9
 text-requires : tie.Need-text-requires
 text-requires c κs = search needs
 
--- src/main.rt:64:34
+-- src/main.rt:49:34
 array-share-prefix-out : tie.Need-array-share-prefix-out
 array-share-prefix-out c = search needs
 
--- src/main.rt:64:34
+-- src/main.rt:49:34
 slice-aggregate-write-all : tie.Need-slice-aggregate-write-all
 slice-aggregate-write-all c = simp length-take (omega (arith, c .before .before .text .ensures))
 
--- src/main.rt:64:5
+-- src/main.rt:49:5
 write-all-requires : tie.Need-write-all-requires
 write-all-requires c κs = search needs
 
--- src/main.rt:59:1
+-- src/main.rt:44:1
 returns : tie.Need-returns
 returns c = search needs
 

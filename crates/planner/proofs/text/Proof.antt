@@ -31,15 +31,15 @@ plan-requires c κs = search needs
 enum-known-answer : tie.Need-enum-known-answer
 enum-known-answer c = search needs
 
--- src/main.rt:38:13
+-- src/main.rt:35:13
 slice-aggregate-put-built : tie.Need-slice-aggregate-put-built
 slice-aggregate-put-built c = search needs
 
--- src/main.rt:39:13
+-- src/main.rt:36:13
 slice-aggregate-put-built-2 : tie.Need-slice-aggregate-put-built-2
 slice-aggregate-put-built-2 c = search needs
 
--- src/main.rt:40:13
+-- src/main.rt:37:13
 slice-aggregate-put-built-3 : tie.Need-slice-aggregate-put-built-3
 slice-aggregate-put-built-3 c = search needs
 
@@ -50,11 +50,11 @@ put-built-requires c κs =
     let kept = c .before .before .before .before .before .before .before .before .before .before .plan .kept in
     (few, ((omega (arith, kept), omega (arith, kept), omega (arith, kept)), omega arith))
 
--- src/main.rt:43:29
+-- src/main.rt:40:29
 enum-known-answer-2 : tie.Need-enum-known-answer-2
 enum-known-answer-2 c = search needs
 
--- src/main.rt:43:35
+-- src/main.rt:40:35
 put-refused-requires : tie.Need-put-refused-requires
 put-refused-requires c κs = search needs
 
