@@ -25,7 +25,7 @@ use Rattle.net.proofs.Tables.{FirstOf, below, end, first-only, first-is, some-a
 use Rattle.net.proofs.Faults.{sound-first}
 use Rattle.net.proofs.Refusals.{build-only}
 use Rattle.net.proofs.Checks.{said-refused, check-faulty}
-use Rattle.shortest.specs.Lists.{note}
+use Rattle.hanging.specs.Lists.{note}
 use Rattle.shortest.specs.Notes.{LowestApart}
 use Rattle.net.proofs.Segments.{length-segments}
 use Rattle.trees.specs.Ready.{netAt, Ready}

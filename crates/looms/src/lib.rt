@@ -1,5 +1,5 @@
 // Building: the three trees of a net, with their lengths and radii and the count of laid paths.
-// Over the head by value and the segments in an array of 2,048 places, of which the first `count` are the net's. Relies on `checks`, `trees` and `shortest`.
+// Over the head by value and the segments in an array of 2,048 places, of which the first `count` are the net's. Relies on `checks`, `trees`, `shortest` and `hanging`.
 use net::Checked;
 use net::Head;
 use net::Measured;
@@ -32,8 +32,8 @@ fn measure(head: Head, a: &[u16], b: &[u16], lengths: &[u32], tree: &[u16]) -> M
     ensures { λ r. ⌜ r ≡ measuredIn (netAt head (now (a .entry)) (now (b .entry)) (now (lengths .entry))) (now (tree .entry)) ⌝ }
 {
     let posts = trees::index_of(head.posts);
-    let length = shortest::whole_of(posts, lengths, tree);
-    let radius = shortest::radius_of(posts, a, b, lengths, tree);
+    let length = hanging::whole_of(posts, lengths, tree);
+    let radius = hanging::radius_of(posts, a, b, lengths, tree);
     Measured { length, radius }
 }
 

@@ -32,7 +32,7 @@ use Rattle.net.proofs.Tables.{FirstOf, here, below, end, first-only, first-is, 
 use Rattle.net.proofs.Faults.{sound-first}
 use Rattle.net.proofs.Refusals.{margin-only}
 use Rattle.net.proofs.Checks.{said-refused, check-faulty}
-use Rattle.shortest.specs.Lists.{note}
+use Rattle.hanging.specs.Lists.{note}
 use Rattle.shortest.specs.Notes.{LowestApart}
 use Rattle.net.proofs.Segments.{length-segments}
 use Rattle.trees.specs.Ready.{netAt, Ready, Worked}

@@ -1,5 +1,5 @@
 // The margin of a post in a tree of a net: "(p + q) × D minus q × path in the tree".
-// Over the head by value and the segments in an array of 2,048 places, of which the first `count` are the net's. Relies on `checks`, `trees` and `shortest`.
+// Over the head by value and the segments in an array of 2,048 places, of which the first `count` are the net's. Relies on `checks`, `trees`, `shortest` and `hanging`.
 use net::Checked;
 use net::Head;
 use net::Refusal;
@@ -62,7 +62,7 @@ fn path_by(head: Head, a: &[u16], b: &[u16], lengths: &[u32], tree: &[u16], post
     ensures { λ r. ⌜ r ≡ pathIn (segmentsOf (now (a .entry)) (now (b .entry)) (now (lengths .entry))) (head .posts) (now (tree .entry)) post ⌝ }
 {
     let posts = trees::index_of(head.posts);
-    shortest::path_of(posts, a, b, lengths, tree, post)
+    hanging::path_of(posts, a, b, lengths, tree, post)
 }
 
 // The same in the lightest tree, worked out afresh into a slice lent to work in.

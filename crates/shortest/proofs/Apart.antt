@@ -1,4 +1,4 @@
--- Which post is not joined: the lowest post whose least length is "none yet" is that of refusal 9. Rests on `Lists`.
+-- Which post is not joined: the lowest post whose least length is "none yet" is that of refusal 9. Rests on `hanging`'s `Lists`.
 use mathlib.Core.Path.{_≡_, sym, ap, _∙_}
 use mathlib.Core.Bool.{Bool, true, false, not}
 use mathlib.Core.List.{List, [], _∷_, _++_}
@@ -15,9 +15,9 @@ use Rattle.net.specs.declared.Segment.{Segment}
 use Rattle.net.proofs.Words.{so-false}
 use Rattle.net.proofs.Tables.{end, here, below, first-only, none-each, some-each}
 use Rattle.net.proofs.Least.{Inside, length-least, joined-chain, chain-joined, least-is, least-small}
-use Rattle.shortest.specs.Lists.{note}
+use Rattle.hanging.specs.Lists.{note}
 use Rattle.shortest.specs.Notes.{LowestApart}
-use Rattle.shortest.proofs.Lists.{last?, front-at}
+use Rattle.hanging.proofs.Lists.{last?, front-at}
 
 -- THE LOOP: every post below v has a note
 pub record AllNear (d : ℕ → ℕ) (v : ℕ) : Type 0 where

@@ -1,4 +1,4 @@
--- The ladder of the open posts: writing a note up it, and that the least note stands at rung 1. Laws of the records of specs/Ladder. Rests on `Lists` and `Settling`.
+-- The ladder of the open posts: writing a note up it, and that the least note stands at rung 1. Laws of the records of specs/Ladder. Rests on `Settling` and `hanging`'s `Lists`.
 use mathlib.Core.Path.{_≡_, refl, sym, ap, _∙_}
 use mathlib.Core.Bool.{Bool, true, false}
 use mathlib.Core.List.{List}
@@ -10,10 +10,10 @@ use lib.ListN.{length, set, replicate, length-set, getD-replicate}
 use lib.Seq.{getD-set-same, getD-set-other}
 use Rattle.net.specs.Trees.{noneYet}
 use Rattle.net.proofs.Words.{true-or-false}
-use Rattle.shortest.specs.Lists.{note}
+use Rattle.hanging.specs.Lists.{note}
 use Rattle.shortest.specs.Notes.{Cleared}
 use Rattle.shortest.specs.Ladder.{Lesser, Rung, Ladder, OpenPosts, Written, NearestOn}
-use Rattle.shortest.proofs.Lists.{same?, below?, stored}
+use Rattle.hanging.proofs.Lists.{same?, below?, stored}
 use Rattle.shortest.proofs.Settling.{not-both}
 
 -- WRITING UP. From t₀, where c stands at its post's rung, up to rung p: only the rung over p may still be wrong, and the posts' rungs are as they were

@@ -1,38 +1,18 @@
--- What each step of the search does to the notes: laws of the records of specs/Notes. Rests on `Lists`.
+-- What each step of the search does to the notes: laws of the records of specs/Notes. Rests on `hanging`'s `Lists` and `Filling`.
 use mathlib.Core.Path.{_≡_, refl, sym, _∙_, subst}
 use mathlib.Core.List.{List}
 use mathlib.Core.Logic.{_⊎_, inl, inr, ⊎-elim}
-use Prim.Native.Nat.{ℕ, zero, _+_, _<_, _≤_}
-use native.Mathlib.Nat.{le-refl, le-trans, le-of-eq, not-suc-le-zero}
+use Prim.Native.Nat.{ℕ, zero, _<_, _≤_}
+use native.Mathlib.Nat.{le-refl, le-trans, le-of-eq}
 use native.Mathlib.Omega.{arith}
-use lib.ListN.{length, set, length-set}
+use lib.ListN.{length, set}
 use Rattle.net.specs.Trees.{noneYet}
-use Rattle.shortest.specs.Lists.{note}
-use Rattle.shortest.specs.Notes.{Joins, Filled, Cleared, Lowered, Offered}
-use Rattle.shortest.proofs.Lists.{last?, stored}
+use Rattle.hanging.specs.Lists.{note}
+use Rattle.shortest.specs.Notes.{Joins, Cleared, Lowered, Offered}
+use Rattle.hanging.proofs.Lists.{stored}
+use Rattle.hanging.proofs.Filling.{Filling}
 
--- FILLING. the first v entries are e, and the others as they were
-pub record Filling (e v : ℕ) (l₀ l : List ℕ) : Type 0 where
-  pub same : length l ≡ length l₀
-  pub gone : (x : ℕ) → x < v → note l x ≡ e
-  pub rest : (x : ℕ) → v ≤ x → note l x ≡ note l₀ x
-
-pub filling-none : {e : ℕ} (l : List ℕ) → Filling e 0 l l
-filling-none l = record { same = refl; gone = λ x h. absurd (not-suc-le-zero h); rest = λ x h. refl }
-
-pub filling-more : {e v : ℕ} {l₀ l : List ℕ} → Filling e v l₀ l → v < length l₀ → Filling e (v + 1) l₀ (set l v e)
-filling-more {e} {v} {l₀} {l} f h =
-    let i : v < length l = omega (arith, f .same) in
-    record {
-      same = simp length-set (f .same);
-      gone = λ x g. ⊎-elim (λ p. p .1) (λ p. p .1 ∙ ⊎-elim (λ q. absurd (p .0 q)) (λ lt. f .gone x lt) (last? x v g)) (stored l v x e 0 i);
-      rest = λ x g. ⊎-elim (λ p. absurd (omega (arith, p .0))) (λ p. p .1 ∙ f .rest x (omega arith)) (stored l v x e 0 i);
-    }
-
-pub filled : {e n : ℕ} {l₀ l : List ℕ} → Filling e n l₀ l → Filled n e (note l₀) (note l)
-filled f = record { gone = f .gone; rest = f .rest }
-
--- then 0 at the source
+-- CLEARING. "none yet" at the posts, then 0 at the source
 pub cleared : {posts source : ℕ} {l₀ l : List ℕ} → Filling noneYet posts l₀ l → source < posts → posts ≤ length l₀ → Cleared posts source (note l₀) (note (set l source 0))
 cleared {posts} {source} {l₀} {l} f h g =
     let i : source < length l = omega (arith, f .same) in

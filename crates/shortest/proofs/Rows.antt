@@ -1,4 +1,4 @@
--- Laws of the index (specs/Rows), and of relaxing along a row. Rests on `Lists`.
+-- Laws of the index (specs/Rows), and of relaxing along a row. Rests on `hanging`'s `Lists`.
 use mathlib.Core.Path.{_≡_, refl, sym, ap, _∙_}
 use mathlib.Core.Bool.{Bool, true}
 use mathlib.Core.List.{List}
@@ -7,10 +7,10 @@ use Prim.Native.Nat.{ℕ, _+_, _-_, _*_, _/_, _<_, _≤_}
 use native.Mathlib.Nat.{le-refl, le-trans, le-of-eq, not-suc-le-zero}
 use native.Mathlib.Omega.{arith}
 use lib.ListN.{length, set}
-use Rattle.shortest.specs.Lists.{flag, note}
-use Rattle.shortest.specs.Notes.{Joins, Filled, Offered, Relaxed}
+use Rattle.hanging.specs.Lists.{flag, note, Filled}
+use Rattle.shortest.specs.Notes.{Joins, Offered, Relaxed}
 use Rattle.shortest.specs.Rows.{On, Index, Pushed}
-use Rattle.shortest.proofs.Lists.{same?, below?, last?, stored}
+use Rattle.hanging.proofs.Lists.{same?, below?, last?, stored}
 
 -- the stores of a push
 pub pushed : {posts x c : ℕ} (h n : List ℕ) → x < posts → x < length h → c < length n → Pushed posts x c h n (set h x c) (set n c (note h x))

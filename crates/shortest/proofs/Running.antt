@@ -12,11 +12,11 @@ use Rattle.net.specs.Net.{segmentsOf}
 use Rattle.net.specs.Trees.{noneYet, at, least}
 use Rattle.net.proofs.Routes.{marked, marked-drop}
 use Rattle.net.proofs.Least.{settled-is, length-least, least-le, least-is}
-use Rattle.shortest.specs.Lists.{flag, note, Sides}
+use Rattle.hanging.specs.Lists.{flag, note, Sides}
 use Rattle.shortest.specs.Notes.{Cleared, Relaxed, Nearest}
 use Rattle.shortest.specs.Ladder.{OpenPosts, Written, NearestOn}
 use Rattle.net.proofs.Segments.{getD-any}
-use Rattle.shortest.proofs.Lists.{front-is}
+use Rattle.hanging.proofs.Lists.{front-is}
 use Rattle.shortest.proofs.Settling.{State, begin, settle, notes-settled, final-next}
 use Rattle.shortest.proofs.Ladder.{open-begin, open-settle}
 use Rattle.shortest.proofs.Sides.{sides-inside, relaxes, joins-in}

@@ -15,7 +15,7 @@ use Rattle.net.proofs.Words.{true-or-false, clash}
 use Rattle.net.proofs.Routes.{snoc, weigh-snoc}
 use Rattle.net.proofs.Least.{Inside, leads-from, leads-to, Settled}
 use Rattle.shortest.specs.Notes.{Cleared}
-use Rattle.shortest.proofs.Lists.{same?}
+use Rattle.hanging.proofs.Lists.{same?}
 
 -- a flag can't be up and down
 pub not-both : {A : Type 0} {t : Bool} → t ≡ true → t ≡ false → A

@@ -1,4 +1,4 @@
--- From the code's lists, side by side, to the segments of `net`: ends, what leads where, and what relaxing does. Rests on `Lists` and `Settling`.
+-- From the code's lists, side by side, to the segments of `net`: ends, what leads where, and what relaxing does. Rests on `Settling` and `hanging`'s `Sides`.
 use mathlib.Core.Path.{_≡_, refl, sym, _∙_}
 use mathlib.Core.Bool.{Bool, true, false, cond, _||_}
 use mathlib.Core.List.{List}
@@ -11,9 +11,10 @@ use borrow.Author.Tests.{eq-eqb, eqb-true}
 use Rattle.net.specs.Net.{segmentsOf, Leads}
 use Rattle.net.proofs.Words.{or-right}
 use Rattle.net.proofs.Least.{Inside}
-use Rattle.shortest.specs.Lists.{flag, note, Ends, Sides}
+use Rattle.hanging.specs.Lists.{flag, note, Ends, Sides}
 use Rattle.shortest.specs.Notes.{Joins, Relaxed}
-use Rattle.net.proofs.Segments.{length-segments, Are, segments-are}
+use Rattle.net.proofs.Segments.{length-segments, segments-are}
+use Rattle.hanging.proofs.Sides.{sides-many, sides-are}
 use Rattle.shortest.proofs.Settling.{Relaxes}
 
 -- `Joins` is what `Leads` tests
@@ -40,12 +41,6 @@ ends-inside {posts} {a} {b} lengths z h =
     }
 
 module _ {posts : ℕ} {a b weights : List ℕ} {present : List Bool} (z : Sides posts a b weights present) where
-  pub sides-many : length (segmentsOf a b weights) ≡ length a
-  sides-many = length-segments a b weights (z .ends .b-many) (z .weights-many)
-
-  pub sides-are : Are a b weights
-  sides-are = segments-are a b weights (z .ends .b-many) (z .weights-many)
-
   -- the ends of every present segment are posts
   pub sides-inside : Inside (segmentsOf a b weights) (flag present) posts
   sides-inside = ends-inside weights (z .ends) (z .weights-many)
@@ -53,10 +48,10 @@ module _ {posts : ℕ} {a b weights : List ℕ} {present : List Bool} (z : Sides
   pub joins-leads : {i u v : ℕ} → i < length a → Joins (note a i) (note b i) u v → Leads (segmentsOf a b weights) i u v
   joins-leads {i} {u} {v} h j =
       let t = joins-test j in
-      record { is-segment = omega (arith, sides-many); ends = rw (sides-are .a-is i, sides-are .b-is i) (t .0); across = rw (sides-are .a-is i, sides-are .b-is i) (t .1) }
+      record { is-segment = omega (arith, sides-many z); ends = rw ((sides-are z) .a-is i, (sides-are z) .b-is i) (t .0); across = rw ((sides-are z) .a-is i, (sides-are z) .b-is i) (t .1) }
 
   pub leads-joins : {i u v : ℕ} → Leads (segmentsOf a b weights) i u v → Joins (note a i) (note b i) u v
-  leads-joins {i} {u} {v} l = test-joins (eqb (note a i) u) refl (rw (sides-are .a-is i, sides-are .b-is i) at (l .ends)) (rw (sides-are .a-is i, sides-are .b-is i) at (l .across))
+  leads-joins {i} {u} {v} l = test-joins (eqb (note a i) u) refl (rw ((sides-are z) .a-is i, (sides-are z) .b-is i) at (l .ends)) (rw ((sides-are z) .a-is i, (sides-are z) .b-is i) at (l .across))
 
   -- the end to which a present segment leads is a post
   pub joins-in : (i u v : ℕ) → i < length a → flag present i ≡ true → Joins (note a i) (note b i) u v → v < posts
@@ -68,6 +63,6 @@ module _ {posts : ℕ} {a b weights : List ℕ} {present : List Bool} (z : Sides
   relaxes r =
       record {
         falls = r .falls;
-        most = λ i v l o. r .most i v (omega (arith, l .is-segment, sides-many)) o (leads-joins l);
+        most = λ i v l o. r .most i v (omega (arith, l .is-segment, sides-many z)) o (leads-joins l);
         from = λ v. ⊎-elim inl (λ q. inr (q .0, joins-leads (q .1) (q .3), q .2, q .4)) (r .from v);
       }

@@ -13,9 +13,9 @@ use Rattle.net.specs.Trees.{noneYet, at, one, least, hung, fewest, hungFrom, le
 use Rattle.net.specs.declared.Segment.{Segment}
 use Rattle.net.proofs.Least.{Inside, length-least, least-most}
 use Rattle.net.proofs.Hung.{length-hung}
-use Rattle.shortest.specs.Lists.{flag, note, Ends, Sides, Low}
+use Rattle.hanging.specs.Lists.{flag, note, Ends, Sides, Low}
 use Rattle.net.proofs.Segments.{length-segments, segments-are}
-use Rattle.shortest.proofs.Lists.{front-at}
+use Rattle.hanging.proofs.Lists.{front-at}
 use Rattle.shortest.proofs.Sides.{sides-inside}
 use Rattle.shortest.proofs.Alike.{Alike, least-alike, hung-alike}
 

@@ -1,6 +1,4 @@
--- What the contracts of this crate cite beside the definitions of `net`.
-pub mod Lists
+-- What the contracts of this crate cite beside the definitions of `net` and `hanging`.
 pub mod Notes
 pub mod Ladder
 pub mod Rows
-pub mod Hooks

@@ -1,5 +1,5 @@
 -- What the steps of the search for least lengths do to the notes. A list of notes is taken as the function that gives the note of a post.
--- Rests on `net`'s words.
+-- Rests on `hanging`'s lists and `net`'s words.
 use mathlib.Core.Path.{_≡_}
 use mathlib.Core.Bool.{Bool, true, false}
 use mathlib.Core.List.{List}
@@ -7,17 +7,12 @@ use mathlib.Core.Logic.{_⊎_}
 use Prim.Native.Nat.{ℕ, _+_, _<_, _≤_}
 use lib.ListN.{length}
 use Rattle.net.specs.Trees.{noneYet}
-use Rattle.shortest.specs.Lists.{flag, note}
+use Rattle.hanging.specs.Lists.{flag, note}
 
 -- x and y are u and v, in either order: a segment of the ends x and y leads from u to v
 pub data Joins (x y u v : ℕ) : Type 0 where
   forth : x ≡ u → y ≡ v → Joins x y u v
   back : y ≡ u → x ≡ v → Joins x y u v
-
--- the first n entries are e, and the others as they were
-pub record Filled (n e : ℕ) (l₀ l : ℕ → ℕ) : Type 0 where
-  pub gone : (v : ℕ) → v < n → l v ≡ e
-  pub rest : (v : ℕ) → n ≤ v → l v ≡ l₀ v
 
 -- before the search: 0 at the source, "none yet" at the other posts
 pub record Cleared (posts source : ℕ) (d₀ d : ℕ → ℕ) : Type 0 where

@@ -1,10 +1,10 @@
 -- The index of a net: the ends of its segments in rows, a row for each post, made once for any number of searches.
--- Code 2 * i + 1 is the first end of segment i, and 2 * i + 2 the second; 0 ends a row. Rests on `Lists`.
+-- Code 2 * i + 1 is the first end of segment i, and 2 * i + 2 the second; 0 ends a row. Rests on `hanging`'s lists.
 use mathlib.Core.Path.{_≡_}
 use mathlib.Core.List.{List}
 use Prim.Native.Nat.{ℕ, _+_, _*_, _<_, _≤_}
 use lib.ListN.{length}
-use Rattle.shortest.specs.Lists.{note}
+use Rattle.hanging.specs.Lists.{note}
 
 -- code k is on the row from c
 pub data On (next : ℕ → ℕ) (k : ℕ) : ℕ → Type 0 where

@@ -14,10 +14,10 @@ use Rattle.net.specs.declared.Head.{Head}
 use Rattle.net.specs.declared.Checked.{Checked}
 use Rattle.net.specs.declared.Checked.the-variants.{Sound}
 use Rattle.net.proofs.Checks.{check-sound}
-use Rattle.shortest.specs.Lists.{note}
+use Rattle.hanging.specs.Lists.{note}
 use Rattle.shortest.specs.Notes.{LowestApart}
 use Rattle.shortest.proofs.Apart.{apart-none, apart-some}
-use Rattle.shortest.proofs.Measures.{short-segments}
+use Rattle.hanging.proofs.Measures.{short-segments}
 use Rattle.trees.specs.Ready.{netAt, Ready}
 use Rattle.trees.proofs.Ready.{ready-inside, ready-source, ready-posts, ready-short}
 

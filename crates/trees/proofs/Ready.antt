@@ -12,7 +12,7 @@ use Rattle.net.specs.Building.{lightestOf, shortestOf, leastLengthsOf, walkOf, 
 use Rattle.net.specs.declared.Head.{Head}
 use Rattle.net.proofs.Least.{Inside, inside-part}
 use Rattle.net.proofs.Sound.{inside}
-use Rattle.shortest.specs.Lists.{flag, Ends, Short}
+use Rattle.hanging.specs.Lists.{flag, Ends, Short}
 use Rattle.net.proofs.Segments.{length-segments, segments-are, getD-any}
 use Rattle.lightest.specs.Marks.{there, Fit}
 use Rattle.lightest.proofs.Fitting.{inside-fit}

@@ -4,7 +4,8 @@ use Prim.Native.Nat.{_≤_, _-_}
 use native.Mathlib.Omega.{arith}
 use lib.ListN.{length-set}
 use Rattle.net.specs.Trees.{noneYet}
-use Rattle.shortest.proofs.Notes.{Filling, filling-none, filling-more, cleared}
+use Rattle.hanging.proofs.Filling.{Filling, filling-none, filling-more}
+use Rattle.shortest.proofs.Notes.{cleared}
 use Rattle.shortest.proofs.clear.Statement.{statement}
 use Rattle.shortest.proofs.clear.Tie as tie
 

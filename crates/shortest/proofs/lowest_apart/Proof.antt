@@ -1,7 +1,7 @@
 -- `shortest::lowest_apart` meets its contract: every post that the loop passed has a note (`AllNear`).
 use Prim.Native.Nat.{_-_, _≤_}
 use native.Mathlib.Omega.{arith}
-use Rattle.shortest.specs.Lists.{note}
+use Rattle.hanging.specs.Lists.{note}
 use Rattle.shortest.proofs.Apart.{AllNear, near-none, near-more}
 use Rattle.shortest.proofs.lowest_apart.Statement.{statement}
 use Rattle.shortest.proofs.lowest_apart.Tie as tie

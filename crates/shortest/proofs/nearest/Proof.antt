@@ -1,7 +1,7 @@
 -- `shortest::nearest` meets its contract: at the head of the loop the least note stands at rung p (`Descending`).
 use Prim.Native.Nat.{_-_}
 use native.Mathlib.Omega.{arith}
-use Rattle.shortest.specs.Lists.{note}
+use Rattle.hanging.specs.Lists.{note}
 use Rattle.shortest.proofs.Ladder.{Descending, descending, down-first, down-second, nearest-none, descended}
 use Rattle.shortest.proofs.nearest.Statement.{statement}
 use Rattle.shortest.proofs.nearest.Tie as tie

@@ -4,7 +4,7 @@ use mathlib.Core.Path.{_≡_, refl, _∙_}
 use native.Mathlib.Omega.{arith}
 use lib.ListN.{length}
 use borrow.Author.Needs.{needs}
-use Rattle.shortest.specs.Lists.{flag, note}
+use Rattle.hanging.specs.Lists.{flag, note}
 use Rattle.shortest.specs.Ladder.{OpenPosts}
 use Rattle.shortest.proofs.Notes.{If, if-so, if-not, offered}
 use Rattle.shortest.proofs.offer.Statement.{statement}

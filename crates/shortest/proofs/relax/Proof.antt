@@ -5,7 +5,7 @@ use Prim.Native.Nat.{_-_, _/_, _<_}
 use native.Mathlib.Omega.{arith}
 use lib.ListN.{length}
 use borrow.Author.Needs.{needs}
-use Rattle.shortest.specs.Lists.{flag, note}
+use Rattle.hanging.specs.Lists.{flag, note}
 use Rattle.shortest.specs.Ladder.{OpenPosts}
 use Rattle.shortest.proofs.Rows.{Walking, walking, walking-more, walking-skip, walked}
 use Rattle.shortest.proofs.Settling.{not-both}

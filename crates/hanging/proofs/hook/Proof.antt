@@ -1,9 +1,9 @@
--- `shortest::hook` meets its contract: by the two tests: a store, or none.
+-- `hanging::hook` meets its contract: by the two tests: a store, or none.
 use native.Mathlib.Omega.{arith}
 use borrow.Author.Needs.{needs}
-use Rattle.shortest.proofs.Hanging.{hooked-so, hooked-not, hooked-other}
-use Rattle.shortest.proofs.hook.Statement.{statement}
-use Rattle.shortest.proofs.hook.Tie as tie
+use Rattle.hanging.proofs.Hanging.{hooked-so, hooked-not, hooked-other}
+use Rattle.hanging.proofs.hook.Statement.{statement}
+use Rattle.hanging.proofs.hook.Tie as tie
 
 mul-if1 : tie.Need-mul-if1
 mul-if1 c = search needs

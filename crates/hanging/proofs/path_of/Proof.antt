@@ -1,11 +1,11 @@
--- `shortest::path_of` meets its contract: at the head of the loop what was climbed and what is left make the path (`Climbing`).
+-- `hanging::path_of` meets its contract: at the head of the loop what was climbed and what is left make the path (`Climbing`).
 use mathlib.Core.Path.{_≡_, sym, _∙_}
 use native.Mathlib.Omega.{arith}
 use lib.ListN.{take}
 use borrow.Author.Needs.{needs}
-use Rattle.shortest.proofs.Measures.{Climbing, climbing-none, climbing-step, climbing-top, climbing-all, length-most}
-use Rattle.shortest.proofs.path_of.Statement.{statement}
-use Rattle.shortest.proofs.path_of.Tie as tie
+use Rattle.hanging.proofs.Measures.{Climbing, climbing-none, climbing-step, climbing-top, climbing-all, length-most}
+use Rattle.hanging.proofs.path_of.Statement.{statement}
+use Rattle.hanging.proofs.path_of.Tie as tie
 
 abbrev Inv-loop : tie.InvT-loop
 Inv-loop posts a b lengths tree post total₀ v₀ left₀ total v left = Climbing a b lengths posts (take posts tree) post left v total

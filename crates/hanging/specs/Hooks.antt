@@ -1,12 +1,12 @@
 -- What one segment does to the entries of a tree list, where it is looked at in its turn: a post that hangs by none hangs by it if it fits.
--- d gives the note of a post. Rests on `Lists` and on `net`'s words.
+-- d gives the note of a post. Rests on `Lists` and on `net`'s words; the contracts of `hook` and `hook_both` cite it.
 use mathlib.Core.Path.{_≡_}
 use mathlib.Core.Bool.{Bool, _&&_, cond, _||_}
 use mathlib.Core.List.{List}
 use Prim.Native.Nat.{ℕ, _+_}
 use lib.Dec.{eqb}
 use Rattle.net.specs.Words.{only, noSegment}
-use Rattle.shortest.specs.Lists.{note}
+use Rattle.hanging.specs.Lists.{note}
 
 -- v hangs by i if it hung by none, and the note of u and c come to its own
 pub record Hooked (u v i c : ℕ) (d : ℕ → ℕ) (t t′ : List ℕ) : Type 0 where

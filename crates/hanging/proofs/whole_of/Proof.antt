@@ -1,12 +1,12 @@
--- `shortest::whole_of` meets its contract: at the head of the loop the lengths of the entries passed are added up (`Adding`).
+-- `hanging::whole_of` meets its contract: at the head of the loop the lengths of the entries passed are added up (`Adding`).
 use mathlib.Core.Path.{_≡_}
 use Prim.Native.Nat.{_≤_, _-_}
 use native.Mathlib.Omega.{arith}
 use lib.ListN.{take}
 use borrow.Author.Needs.{needs}
-use Rattle.shortest.proofs.Measures.{Adding, adding-none, adding-step, adding-all, length-most}
-use Rattle.shortest.proofs.whole_of.Statement.{statement}
-use Rattle.shortest.proofs.whole_of.Tie as tie
+use Rattle.hanging.proofs.Measures.{Adding, adding-none, adding-step, adding-all, length-most}
+use Rattle.hanging.proofs.whole_of.Statement.{statement}
+use Rattle.hanging.proofs.whole_of.Tie as tie
 
 abbrev Inv-loop : tie.InvT-loop
 Inv-loop posts lengths tree total₀ v₀ total v = (v ≤ posts) × Adding lengths (take posts tree) v total

@@ -1,10 +1,10 @@
--- `shortest::fill` meets its contract: the loop fills the first entries (`Filling`).
+-- `hanging::fill` meets its contract: the loop fills the first entries (`Filling`).
 use mathlib.Core.Path.{_≡_}
 use Prim.Native.Nat.{_≤_, _-_}
 use native.Mathlib.Omega.{arith}
-use Rattle.shortest.proofs.Notes.{Filling, filling-none, filling-more, filled}
-use Rattle.shortest.proofs.fill.Statement.{statement}
-use Rattle.shortest.proofs.fill.Tie as tie
+use Rattle.hanging.proofs.Filling.{Filling, filling-none, filling-more, filled}
+use Rattle.hanging.proofs.fill.Statement.{statement}
+use Rattle.hanging.proofs.fill.Tie as tie
 
 abbrev Inv-loop : tie.InvT-loop
 Inv-loop posts e list₀ v₀ list v = (v ≤ posts) × Filling e v list₀ list

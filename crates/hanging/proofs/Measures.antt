@@ -14,7 +14,7 @@ use Rattle.net.specs.Words.{counted, sum, largest, noSegment}
 use Rattle.net.specs.Net.{longest, segmentsOf, segmentAt, lengthAt}
 use Rattle.net.specs.Trees.{entry, hangs, parent, pathUp, pathIn, radius, whole}
 use Rattle.net.specs.declared.Segment.{Segment}
-use Rattle.shortest.specs.Lists.{Short}
+use Rattle.hanging.specs.Lists.{Short}
 use Rattle.net.proofs.Segments.{segments-are}
 
 -- no length is above 1,048,575, behind the end either

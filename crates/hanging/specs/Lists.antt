@@ -1,5 +1,5 @@
 -- How the code's lists are read: flags as a test on segment numbers, numbers as a function, three lists side by side as segments; and what is asked of them.
--- Rests on `net`'s words.
+-- Also what `fill` does to a list. Rests on `net`'s words; `shortest` and the crates above it cite it too.
 use mathlib.Core.Path.{_≡_}
 use mathlib.Core.Bool.{Bool, true, false}
 use mathlib.Core.List.{List}
@@ -15,6 +15,11 @@ flag l i = getD l i false
 -- what stands for i: the note of a post, the end of a segment, or what a segment counts for
 abbrev pub note : List ℕ → ℕ → ℕ
 note l i = getD l i 0
+
+-- the first n entries are e, and the others as they were
+pub record Filled (n e : ℕ) (l₀ l : ℕ → ℕ) : Type 0 where
+  pub gone : (v : ℕ) → v < n → l v ≡ e
+  pub rest : (v : ℕ) → n ≤ v → l v ≡ l₀ v
 
 -- "Length 1 to 1,048,575": no length is above that
 pub record Short (lengths : List ℕ) : Type 0 where

@@ -1,8 +1,8 @@
--- `shortest::hook_both` meets its contract: the two ends of a segment, one after the other (`hooks`).
+-- `hanging::hook_both` meets its contract: the two ends of a segment, one after the other (`hooks`).
 use borrow.Author.Needs.{needs}
-use Rattle.shortest.proofs.Hanging.{hooks}
-use Rattle.shortest.proofs.hook_both.Statement.{statement}
-use Rattle.shortest.proofs.hook_both.Tie as tie
+use Rattle.hanging.proofs.Hanging.{hooks}
+use Rattle.hanging.proofs.hook_both.Statement.{statement}
+use Rattle.hanging.proofs.hook_both.Tie as tie
 
 hook-requires : tie.Need-hook-requires
 hook-requires c κs = search needs

@@ -1,10 +1,10 @@
--- `shortest::at32` meets its contract: a total read: by cases, within the list or behind its end.
+-- `hanging::at32` meets its contract: a total read: by cases, within the list or behind its end.
 use mathlib.Core.Path.{sym}
 use native.Mathlib.Omega.{arith}
 use lib.ListN.{List·getD-eq-default}
 use borrow.Author.Needs.{needs}
-use Rattle.shortest.proofs.at32.Statement.{statement}
-use Rattle.shortest.proofs.at32.Tie as tie
+use Rattle.hanging.proofs.at32.Statement.{statement}
+use Rattle.hanging.proofs.at32.Tie as tie
 
 mul-result : tie.Need-mul-result
 mul-result c = search needs

@@ -15,11 +15,10 @@ use Rattle.net.specs.Net.{segmentsOf}
 use Rattle.net.specs.Trees.{noneYet, at, fits, hung}
 use Rattle.net.proofs.Words.{tab-at}
 use Rattle.net.proofs.Hung.{length-hung}
-use Rattle.shortest.specs.Lists.{flag, note, Sides, Low}
-use Rattle.shortest.specs.Notes.{Filled}
-use Rattle.shortest.specs.Hooks.{Hooked, Hooks, fitting}
-use Rattle.shortest.proofs.Lists.{same?, stored, taken-at, front-is}
-use Rattle.shortest.proofs.Sides.{sides-many, sides-are}
+use Rattle.hanging.specs.Lists.{flag, note, Filled, Sides, Low}
+use Rattle.hanging.specs.Hooks.{Hooked, Hooks, fitting}
+use Rattle.hanging.proofs.Lists.{same?, stored, taken-at, front-is}
+use Rattle.hanging.proofs.Sides.{sides-many, sides-are}
 
 -- ONE END. a store, and none
 pub hooked-so : {u v i c : ℕ} {d : ℕ → ℕ} (t : List ℕ) → v < length t → note t v ≡ 65535 → d u + c ≡ d v → Hooked u v i c d t (set t v i)

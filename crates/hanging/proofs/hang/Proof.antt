@@ -1,13 +1,13 @@
--- `shortest::hang` meets its contract: at the head of the loop each entry is the lowest of the segments looked at that fits (`Hanging`).
+-- `hanging::hang` meets its contract: at the head of the loop each entry is the lowest of the segments looked at that fits (`Hanging`).
 use mathlib.Core.Logic.{⊎-elim}
 use mathlib.Core.Path.{_≡_, refl, _∙_}
 use Prim.Native.Nat.{_-_}
 use native.Mathlib.Omega.{arith}
 use lib.ListN.{length}
 use borrow.Author.Needs.{needs}
-use Rattle.shortest.proofs.Hanging.{Hanging, hanging-none, hanging-more, hanging-skip, hanging-all, hook-in}
-use Rattle.shortest.proofs.hang.Statement.{statement}
-use Rattle.shortest.proofs.hang.Tie as tie
+use Rattle.hanging.proofs.Hanging.{Hanging, hanging-none, hanging-more, hanging-skip, hanging-all, hook-in}
+use Rattle.hanging.proofs.hang.Statement.{statement}
+use Rattle.hanging.proofs.hang.Tie as tie
 
 abbrev Inv-loop : tie.InvT-loop
 Inv-loop posts a b weights present dist tree₀ i₀ tree i = Hanging a b weights present posts dist i tree₀ tree

@@ -1,9 +1,9 @@
--- `shortest::entry_of` meets its contract: a total read of the first entries: by cases, within them or behind.
+-- `hanging::entry_of` meets its contract: a total read of the first entries: by cases, within them or behind.
 use native.Mathlib.Omega.{arith}
 use borrow.Author.Needs.{needs}
-use Rattle.shortest.proofs.Lists.{taken-at, taken-out}
-use Rattle.shortest.proofs.entry_of.Statement.{statement}
-use Rattle.shortest.proofs.entry_of.Tie as tie
+use Rattle.hanging.proofs.Lists.{taken-at, taken-out}
+use Rattle.hanging.proofs.entry_of.Statement.{statement}
+use Rattle.hanging.proofs.entry_of.Tie as tie
 
 mul-result : tie.Need-mul-result
 mul-result c = search needs

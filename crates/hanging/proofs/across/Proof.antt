@@ -1,7 +1,7 @@
--- `shortest::across` meets its contract: which end lies across. By cases of the test.
+-- `hanging::across` meets its contract: which end lies across. By cases of the test.
 use borrow.Author.Tests.{eq-eqb, ne-eqb}
-use Rattle.shortest.proofs.across.Statement.{statement}
-use Rattle.shortest.proofs.across.Tie as tie
+use Rattle.hanging.proofs.across.Statement.{statement}
+use Rattle.hanging.proofs.across.Tie as tie
 
 returns : tie.Need-returns
 returns c = rw (eq-eqb _ _ (c .if1 .taken))

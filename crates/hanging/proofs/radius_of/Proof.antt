@@ -1,12 +1,12 @@
--- `shortest::radius_of` meets its contract: at the head of the loop the longest path of the posts passed (`Longest`).
+-- `hanging::radius_of` meets its contract: at the head of the loop the longest path of the posts passed (`Longest`).
 use mathlib.Core.Logic.{⊎-elim}
 use mathlib.Core.Path.{_≡_}
 use Prim.Native.Nat.{_≤_, _-_}
 use native.Mathlib.Omega.{arith}
 use lib.ListN.{take}
-use Rattle.shortest.proofs.Measures.{Longest, longest-none, longest-more, longest-kept, longest-all}
-use Rattle.shortest.proofs.radius_of.Statement.{statement}
-use Rattle.shortest.proofs.radius_of.Tie as tie
+use Rattle.hanging.proofs.Measures.{Longest, longest-none, longest-more, longest-kept, longest-all}
+use Rattle.hanging.proofs.radius_of.Statement.{statement}
+use Rattle.hanging.proofs.radius_of.Tie as tie
 
 abbrev Inv-loop : tie.InvT-loop
 Inv-loop posts a b lengths tree most₀ v₀ most v = (v ≤ posts) × Longest a b lengths posts (take posts tree) v most

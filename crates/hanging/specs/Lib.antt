@@ -1,0 +1,3 @@
+-- What the contracts of this crate cite beside the definitions of `net`; `shortest` cites `Lists` too.
+pub mod Lists
+pub mod Hooks
