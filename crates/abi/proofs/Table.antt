@@ -22,12 +22,13 @@ use Rattle.net.specs.Rules.{BuildRule, MarginRule}
 use Rattle.net.proofs.Faults.{head-range, segment-range, faulty-range}
 use Rattle.net.proofs.Refusals.{build-answers, margin-answers}
 use Rattle.numbers.specs.Rules.{NumberRule}
-use Rattle.records.specs.Rules.{WriteRule, ReadRule, head-ten-eleven, one-to-four, eight, segment-ten-eleven, five-to-seven, twelve, good}
-use Rattle.records.specs.Writing.{netWritten, writeRefusal}
-use Rattle.records.specs.Answers.{writeAnswerBy, writeAnswerOf}
-use Rattle.records.specs.declared.writing.WriteAnswer.the-variants.{Refused as Unwritten}
+use Rattle.records.specs.Rules.{ReadRule, head-ten-eleven, one-to-four, eight, segment-ten-eleven, five-to-seven, twelve, good}
+use Rattle.writing.specs.Rules.{WriteRule}
+use Rattle.writing.specs.Writing.{netWritten, writeRefusal}
+use Rattle.writing.specs.Answers.{writeAnswerBy, writeAnswerOf}
+use Rattle.writing.specs.declared.WriteAnswer.the-variants.{Refused as Unwritten}
 use Rattle.records.proofs.Ruled.{read-answers}
-use Rattle.records.proofs.RuledWriting.{write-answers}
+use Rattle.writing.proofs.RuledWriting.{write-answers}
 use Rattle.plans.specs.Asked.{recordRead, checkRead, plannedWith, planOf, rewriteOf, marginSaid, marginRead}
 use Rattle.plans.specs.declared.PlanAnswer.the-variants.{Refused as Unplanned}
 use Rattle.drawn.specs.Drawn.{drawnOf}

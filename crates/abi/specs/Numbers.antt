@@ -1,4 +1,4 @@
--- How an answer stands in one number of 64 bits, for each case of the enums of `net`, `plans`, `records`, `margins` and `drawn`. Relies on named's `Named` for a
+-- How an answer stands in one number of 64 bits, for each case of the enums of `net`, `plans`, `writing`, `margins` and `drawn`. Relies on named's `Named` for a
 -- refusal in one number.
 use Prim.Native.Nat.{ℕ}
 use Rattle.net.specs.declared.Checked.{Checked}
@@ -7,8 +7,8 @@ use Rattle.drawn.specs.declared.Answer.{Answer}
 use Rattle.drawn.specs.declared.Answer.the-variants.{Length, Refused as Undrawn}
 use Rattle.margins.specs.declared.MarginAnswer.{MarginAnswer}
 use Rattle.margins.specs.declared.MarginAnswer.the-variants.{Margin, Refused as Unmeasured}
-use Rattle.records.specs.declared.writing.WriteAnswer.{WriteAnswer}
-use Rattle.records.specs.declared.writing.WriteAnswer.the-variants.{Written, Refused as Unwritten}
+use Rattle.writing.specs.declared.WriteAnswer.{WriteAnswer}
+use Rattle.writing.specs.declared.WriteAnswer.the-variants.{Written, Refused as Unwritten}
 use Rattle.plans.specs.declared.PlanAnswer.{PlanAnswer}
 use Rattle.plans.specs.declared.PlanAnswer.the-variants.{Planned, Refused as Unplanned}
 use Rattle.named.specs.Named.{packed, marked}

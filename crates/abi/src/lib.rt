@@ -11,7 +11,7 @@ use named::tree_named;
 use named::wide;
 use net::Checked;
 use plans::PlanAnswer;
-use records::writing::WriteAnswer;
+use writing::WriteAnswer;
 ghost use mathlib.Core.Path.{_≡_};
 ghost use Rattle.drawn.specs.Drawn.{drawnOf};
 ghost use Rattle.plans.specs.Asked.{recordRead, checkRead};

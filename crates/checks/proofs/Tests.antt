@@ -1,4 +1,4 @@
--- A test of the code and what it tells: of two numbers, of an end, of a number that is one of 1, 2, .., high, and of a head's rules.
+-- A test of the code and what it tells: of two numbers, of a number that is one of 1, 2, .., high, and of a head's rules.
 use mathlib.Core.Path.{_≡_, refl, sym, _∙_}
 use mathlib.Core.Bool.{Bool, true, false, not, _&&_}
 use mathlib.Core.Logic.{_⊎_, inl, inr}
@@ -23,14 +23,6 @@ not-at-most x y e = leb-false x y (not-true _ e)
 
 pub is-at-most : (x y : ℕ) → not (leb x y) ≡ false → x ≤ y
 is-at-most x y e = leb-true x y (not-false _ e)
-
--- r: an end x, widened
-module _ {r x : ℕ} (e : r ≡ x) (posts : ℕ) where
-  pub end-out : not (ltb r posts) ≡ true → posts ≤ x
-  end-out f = rw e at (not-below r posts f)
-
-  pub end-in : not (ltb r posts) ≡ false → x < posts
-  end-in f = rw e at (is-below r posts f)
 
 pub not-apart : (x y : ℕ) → not (not (eqb x y)) ≡ true → x ≡ y
 not-apart x y e = eqb-true x y (not-false _ (not-true _ e))

@@ -1,4 +1,4 @@
--- TWO OUTCOMES that a contract allows are equal, for each check: `check-head-one`, `check-segment-one`, `check-one`. And what an answer says in document 01's terms
+-- TWO OUTCOMES that a contract allows are equal, for each check: `check-head-one`, `check-numbers-one`, `check-segment-one`, `check-one`. And what an answer says in document 01's terms
 -- is what the table gives (`check-says`).
 use mathlib.Core.Path.{_≡_, refl, sym, ap, _∙_}
 use mathlib.Core.List.{List}
@@ -14,6 +14,10 @@ use Rattle.net.specs.declared.Checked.{Checked}
 
 pub check-head-one : (h : Head) (count : ℕ) {x y : Checked} → x ≡ checkedOf (first (headLines h count)) → y ≡ checkedOf (first (headLines h count)) → x ≡ y
 check-head-one h count p q = p ∙ sym q
+
+pub check-numbers-one : (posts a b l i : ℕ) {x y : Checked} → x ≡ checkedOf (first (segmentLines posts (record { a = a; b = b; length = l }) i))
+    → y ≡ checkedOf (first (segmentLines posts (record { a = a; b = b; length = l }) i)) → x ≡ y
+check-numbers-one posts a b l i p q = p ∙ sym q
 
 pub check-segment-one : (posts : ℕ) (s : Segment) (i : ℕ) {x y : Checked} → x ≡ checkedOf (first (segmentLines posts s i)) → y ≡ checkedOf (first (segmentLines posts s i)) → x ≡ y
 check-segment-one posts s i p q = p ∙ sym q

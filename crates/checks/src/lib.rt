@@ -1,6 +1,6 @@
-// The checks 1 to 7 of a net: of a head and a count of segments (`check_head`), of one segment (`check_segment`), of a net in three slices (`check`).
-// Each answers what the table of `net` gives (its specs/Refusals), and asks nothing of what is lent to it. Relies on `net` alone; records, building and
-// margin stand above it.
+// The checks 1 to 7 of a net: of a head and a count of segments (`check_head`), of one segment (`check_segment`, and by its numbers `check_numbers`), of a net
+// in three slices (`check`). Each answers what the table of `net` gives (its specs/Refusals), and asks nothing of what is lent to it. Relies on `net` alone;
+// reading, writing, building and margin stand above it.
 use net::Checked;
 use net::Head;
 use net::LONGEST;
@@ -54,6 +54,25 @@ pub fn check_head(head: Head, count: usize) -> Checked
     Checked::Sound
 }
 
+// 5, 6 and 7 of one segment, whose number is the place, given by its numbers: as they are read they may be larger than any post's.
+pub fn check_numbers(posts: u32, a: u32, b: u32, length: u32, place: u32) -> Checked
+    ensures { λ r. ⌜ r ≡ checkedOf (first (segmentLines posts (record { a = a; b = b; length = length }) place)) ⌝ }
+{
+    if !(a < posts) {
+        return refuse(5, place);
+    }
+    if !(b < posts) {
+        return refuse(5, place);
+    }
+    if !(a != b) {
+        return refuse(6, place);
+    }
+    if !within(1, length, LONGEST) {
+        return refuse(7, place);
+    }
+    Checked::Sound
+}
+
 // An end as the number of a post.
 fn wide(x: u16) -> u32
     ensures { λ r. ⌜ r ≡ x ⌝ }
@@ -65,19 +84,13 @@ fn wide(x: u16) -> u32
 pub fn check_segment(posts: u32, segment: Segment, number: u32) -> Checked
     ensures { λ r. ⌜ r ≡ checkedOf (first (segmentLines posts segment number)) ⌝ }
 {
-    if !(wide(segment.a) < posts) {
-        return refuse(5, number);
-    }
-    if !(wide(segment.b) < posts) {
-        return refuse(5, number);
-    }
-    if !(segment.a != segment.b) {
-        return refuse(6, number);
-    }
-    if !within(1, segment.length, LONGEST) {
-        return refuse(7, number);
-    }
-    Checked::Sound
+    check_numbers(
+        posts,
+        wide(segment.a),
+        wide(segment.b),
+        segment.length,
+        number,
+    )
 }
 
 // The lesser of two counts.

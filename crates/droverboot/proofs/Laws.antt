@@ -11,12 +11,13 @@ use Rattle.lent.proofs.Lists.{padded-short, laid-all, laid-none}
 use Rattle.lent.proofs.Nets.{netIn, answer-on-list}
 use Rattle.numbers.specs.Numbers.{Got, got, refused}
 use Rattle.records.specs.Reading.{netRead}
-use Rattle.records.specs.Writing.{shortLines, netWritten, writeRefusal, afterWriting, roomAfter}
-use Rattle.records.specs.Answers.{readArrayOf, writeAnswerBy, writeAnswerOf, Writes}
-use Rattle.records.specs.declared.writing.WriteAnswer.{WriteAnswer}
+use Rattle.writing.specs.Writing.{shortLines, netWritten, writeRefusal, afterWriting, roomAfter}
+use Rattle.records.specs.Answers.{readArrayOf}
+use Rattle.writing.specs.Answers.{writeAnswerBy, writeAnswerOf, Writes}
+use Rattle.writing.specs.declared.WriteAnswer.{WriteAnswer}
 use Rattle.records.specs.declared.reading.ReadAnswer.{ReadAnswer}
 use Rattle.records.specs.declared.reading.ReadArray.{ReadArray}
-use Rattle.records.proofs.Lines.{head-sound}
+use Rattle.writing.proofs.Lines.{head-sound}
 use Rattle.records.proofs.Parsed.{net-is}
 use Rattle.records.proofs.Passes.{segments-count}
 use Rattle.droverboot.specs.Reading.{countOf, readAnswer, listRead}

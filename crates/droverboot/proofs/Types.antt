@@ -7,8 +7,8 @@ use Rattle.margins.proofs.MarginAnswer as MarginAnswer
 use Rattle.margins.proofs.MarginAnswer.Laws as MarginAnswer′
 use Rattle.looms.proofs.Answer as Answer
 use Rattle.looms.proofs.Answer.Laws as Answer′
-use Rattle.records.proofs.writing.WriteAnswer as WriteAnswer
-use Rattle.records.proofs.writing.WriteAnswer.Laws as WriteAnswer′
+use Rattle.writing.proofs.WriteAnswer as WriteAnswer
+use Rattle.writing.proofs.WriteAnswer.Laws as WriteAnswer′
 use Rattle.records.proofs.reading.ReadAnswer as ReadAnswer
 use Rattle.records.proofs.reading.ReadAnswer.Laws as ReadAnswer′
 use Rattle.records.proofs.reading.ReadArray as ReadArray

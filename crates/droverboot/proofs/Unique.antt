@@ -17,10 +17,10 @@ use Rattle.margins.specs.declared.MarginAnswer.{MarginAnswer}
 use Rattle.looms.proofs.Unique.{SameOutcome}
 use Rattle.looms.proofs.Unique as looms
 use Rattle.margins.proofs.Unique as margins
-use Rattle.records.specs.Answers.{Writes}
-use Rattle.records.specs.declared.writing.WriteAnswer.{WriteAnswer}
+use Rattle.writing.specs.Answers.{Writes}
+use Rattle.writing.specs.declared.WriteAnswer.{WriteAnswer}
 use Rattle.records.specs.declared.reading.ReadAnswer.{ReadAnswer}
-use Rattle.records.proofs.Outcomes.{write-array-unique}
+use Rattle.writing.proofs.Outcomes.{write-array-unique}
 use Rattle.droverboot.specs.Reading.{Reads}
 
 module _ (h : Head) (segments : List Segment) where

@@ -12,8 +12,8 @@ use net::Tree;
 use records::reading::ReadAnswer;
 use records::reading::ReadArray;
 use records::reading::read_array;
-use records::writing::WriteAnswer;
-use records::writing::write_array;
+use writing::WriteAnswer;
+use writing::write_array;
 ghost use mathlib.Core.Path.{_≡_};
 ghost use lib.ListN.{length};
 ghost use Rattle.lent.specs.Lists.{netOn};
@@ -21,7 +21,7 @@ ghost use Rattle.net.specs.Net.{every};
 ghost use Rattle.net.specs.Building.{marginOf};
 ghost use Rattle.looms.specs.Answers.{Leaves};
 ghost use Rattle.margins.specs.Answers.{marginAnswerOf};
-ghost use Rattle.records.specs.Answers.{Writes};
+ghost use Rattle.writing.specs.Answers.{Writes};
 ghost use Rattle.droverboot.specs.Reading.{countOf, Reads};
 
 // Building: the trees' entries go into the three lent lists, and the answer has their lengths and radii and the count of laid paths, or the refusal.

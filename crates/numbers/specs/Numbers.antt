@@ -1,5 +1,5 @@
 -- A number in the record: "written in groups of seven bits, lowest group first; 128 is added to every byte but the last", and how one is read.
--- Relies on net's refusals; `Putting`, `Answers` and `Rules` stand on it, and so do the definitions of the crate `records`.
+-- Relies on net's refusals; `Putting`, `Answers` and `Rules` stand on it, and so do the definitions of the crates `writing` and `records`.
 use Prim.Native.Nat.{ℕ, zero, suc, _+_, _*_, _-_, _/_, _%_, _<_}
 use mathlib.Core.Bool.{_&&_, cond}
 use mathlib.Core.List.{List, [], _∷_}

@@ -21,11 +21,12 @@ use Rattle.looms.specs.declared.Answer.the-variants.{Built, Refused as Unbuilt}
 use Rattle.margins.specs.declared.MarginAnswer.{MarginAnswer}
 use Rattle.margins.specs.declared.MarginAnswer.the-variants.{Refused as Unmeasured}
 use Rattle.numbers.specs.Numbers.{Got, got, refused as unread}
-use Rattle.records.specs.Answers.{padded, readArrayOf, Writes}
+use Rattle.records.specs.Answers.{padded, readArrayOf}
+use Rattle.writing.specs.Answers.{Writes}
 use Rattle.records.specs.declared.reading.ReadAnswer.the-variants.{Read, Refused as ReadRefused}
 use Rattle.records.specs.declared.reading.ReadArray.{ReadArray}
-use Rattle.records.specs.declared.writing.WriteAnswer.{WriteAnswer}
-use Rattle.records.specs.declared.writing.WriteAnswer.the-variants.{Refused as Unwritten}
+use Rattle.writing.specs.declared.WriteAnswer.{WriteAnswer}
+use Rattle.writing.specs.declared.WriteAnswer.the-variants.{Refused as Unwritten}
 use Rattle.plans.specs.Asked.{recordRead, plannedWith, Plans, PlansNet, Rewrites, marginRead, checkRead}
 use Rattle.plans.specs.declared.PlanAnswer.{PlanAnswer}
 use Rattle.plans.specs.declared.PlanAnswer.the-variants.{Planned, Refused}

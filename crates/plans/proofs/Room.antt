@@ -16,9 +16,9 @@ use Rattle.net.specs.declared.Refusal.{Refusal}
 use Rattle.numbers.specs.Numbers.{Bytes, Got, got, refused}
 use Rattle.records.specs.Reading.{Heading, heading, segments, restRead, netRead}
 use Rattle.numbers.specs.Putting.{onto}
-use Rattle.records.specs.declared.writing.WriteAnswer.{WriteAnswer}
-use Rattle.records.specs.declared.writing.WriteAnswer.the-variants.{Written}
-use Rattle.records.proofs.Lines.{head-sound}
+use Rattle.writing.specs.declared.WriteAnswer.{WriteAnswer}
+use Rattle.writing.specs.declared.WriteAnswer.the-variants.{Written}
+use Rattle.writing.proofs.Lines.{head-sound}
 use Rattle.records.proofs.Passes.{rest-head, rest-segments, rest-more, rest-all, net-stops, net-rest}
 use Rattle.records.proofs.Outcomes.{read-writes}
 use Rattle.plans.specs.Asked.{recordRead, rewriteOf, roomOf, Rewrites}

@@ -16,9 +16,9 @@ use Rattle.margins.specs.Answers.{marginSaysOf}
 use Rattle.margins.specs.declared.MarginAnswer.{MarginAnswer}
 use Rattle.margins.proofs.Unique.{says-margin-answer}
 use Rattle.numbers.specs.Numbers.{Got, got, refused as unread}
-use Rattle.records.specs.Answers.{saysWritten}
-use Rattle.records.specs.declared.writing.WriteAnswer.{WriteAnswer}
-use Rattle.records.proofs.Outcomes.{says-written}
+use Rattle.writing.specs.Answers.{saysWritten}
+use Rattle.writing.specs.declared.WriteAnswer.{WriteAnswer}
+use Rattle.writing.proofs.Outcomes.{says-written}
 use Rattle.plans.specs.Asked.{recordRead, plannedWith, planOf, Plans, rewriteOf, Rewrites, marginSaid, marginRead, checkRead}
 use Rattle.plans.specs.Says.{saysPlanned, builtSaid, planSaid, rewriteSaid, checkSaid}
 use Rattle.plans.specs.declared.PlanAnswer.{PlanAnswer}

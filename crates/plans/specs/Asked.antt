@@ -18,10 +18,10 @@ use Rattle.margins.specs.Answers.{marginAnswerOf}
 use Rattle.margins.specs.declared.MarginAnswer.{MarginAnswer}
 use Rattle.numbers.specs.Numbers.{Got, got, refused as unread}
 use Rattle.records.specs.Reading.{netRead}
-use Rattle.records.specs.Writing.{roomAfter}
-use Rattle.records.specs.Answers.{writeAnswerOf}
-use Rattle.records.specs.declared.writing.WriteAnswer.{WriteAnswer}
-use Rattle.records.specs.declared.writing.WriteAnswer.the-variants.{Refused as Unwritten}
+use Rattle.writing.specs.Writing.{roomAfter}
+use Rattle.writing.specs.Answers.{writeAnswerOf}
+use Rattle.writing.specs.declared.WriteAnswer.{WriteAnswer}
+use Rattle.writing.specs.declared.WriteAnswer.the-variants.{Refused as Unwritten}
 use Rattle.plans.specs.declared.PlanAnswer.{PlanAnswer}
 use Rattle.plans.specs.declared.PlanAnswer.the-variants.{Planned, Refused}
 

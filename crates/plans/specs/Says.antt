@@ -10,8 +10,8 @@ use Rattle.net.specs.declared.Head.{Head}
 use Rattle.net.specs.declared.Measured.{Measured}
 use Rattle.net.specs.declared.Refusal.{Refusal}
 use Rattle.numbers.specs.Numbers.{Got, got, refused as unread}
-use Rattle.records.specs.Writing.{netWritten, writeRefusal}
-use Rattle.records.specs.Answers.{Said, result, refusal-of, saidSize}
+use Rattle.writing.specs.Writing.{netWritten, writeRefusal}
+use Rattle.writing.specs.Answers.{Said, result, refusal-of, saidSize}
 use Rattle.plans.specs.declared.PlanAnswer.{PlanAnswer}
 use Rattle.plans.specs.declared.PlanAnswer.the-variants.{Planned, Refused}
 

@@ -1,6 +1,6 @@
 // What is asked of a record: plan it, write it again, the margin of a post, or only whether it is good. Each reads the record and goes on with the net
-// that was read; a refusal of reading is the answer, and then nothing lent is changed. None asks anything of what is lent. Thin over `records`, `looms` and `margins`;
-// the program and the library for C stand on it.
+// that was read; a refusal of reading is the answer, and then nothing lent is changed. None asks anything of what is lent. Thin over `records`, `writing`, `looms`
+// and `margins`; the program and the library for C stand on it.
 use looms::Answer;
 use margins::MarginAnswer;
 use net::Checked;
@@ -13,8 +13,8 @@ use net::Tree;
 use records::reading::ReadAnswer;
 use records::reading::ReadArray;
 use records::reading::read_array;
-use records::writing::WriteAnswer;
-use records::writing::write_array;
+use writing::WriteAnswer;
+use writing::write_array;
 ghost use mathlib.Core.Path.{_≡_};
 ghost use Rattle.net.specs.Net.{netOf};
 ghost use Rattle.records.specs.Answers.{readArrayOf};

@@ -23,11 +23,12 @@ use Rattle.looms.proofs.Unique.{answer-says}
 use Rattle.margins.proofs.Unique.{margin-answer-says}
 use Rattle.numbers.specs.Numbers.{Got, got, refused}
 use Rattle.records.specs.Reading.{netRead}
-use Rattle.records.specs.Writing.{netWritten, writeRefusal, afterWriting, roomAfter}
-use Rattle.records.specs.Answers.{refusal-of, saysBy, writeAnswerBy, writeAnswerOf, saysWritten, Writes}
-use Rattle.records.specs.declared.writing.WriteAnswer.{WriteAnswer}
+use Rattle.writing.specs.Writing.{netWritten, writeRefusal, afterWriting, roomAfter}
+use Rattle.records.specs.Answers.{saysBy}
+use Rattle.writing.specs.Answers.{refusal-of, writeAnswerBy, writeAnswerOf, saysWritten, Writes}
+use Rattle.writing.specs.declared.WriteAnswer.{WriteAnswer}
 use Rattle.records.proofs.Ruled.{read-answers, read-only}
-use Rattle.records.proofs.RuledWriting.{write-answers, write-only}
+use Rattle.writing.proofs.RuledWriting.{write-answers, write-only}
 use Rattle.droverboot.specs.Reading.{readAnswer, listRead}
 use Rattle.plans.specs.Asked.{recordRead, plannedWith, planOf, treeList, Plans}
 use Rattle.plans.specs.Says.{saysPlanned}

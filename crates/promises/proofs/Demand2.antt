@@ -34,13 +34,15 @@ use Rattle.margins.proofs.Meaning.{given-below, given-zero, given-source, given
 use Rattle.numbers.specs.Numbers.{Bytes, Got, got, refused}
 use Rattle.records.specs.Reading.{netRead}
 use Rattle.numbers.specs.Putting.{onto}
-use Rattle.records.specs.Writing.{netWritten}
-use Rattle.records.specs.Answers.{result, saysBy, saysWritten, Writes}
+use Rattle.writing.specs.Writing.{netWritten}
+use Rattle.records.specs.Answers.{saysBy}
+use Rattle.writing.specs.Answers.{result, saysWritten, Writes}
 use Rattle.records.specs.declared.reading.ReadAnswer.{ReadAnswer}
-use Rattle.records.specs.declared.writing.WriteAnswer.{WriteAnswer}
-use Rattle.records.specs.declared.writing.WriteAnswer.the-variants.{Written, Refused as NotWritten}
+use Rattle.writing.specs.declared.WriteAnswer.{WriteAnswer}
+use Rattle.writing.specs.declared.WriteAnswer.the-variants.{Written, Refused as NotWritten}
 use Rattle.records.proofs.RoundTrip.{read-of-written, records-equal, nets-equal}
-use Rattle.records.proofs.Outcomes.{was-written, read-writes}
+use Rattle.records.proofs.Outcomes.{read-writes}
+use Rattle.writing.proofs.Outcomes.{was-written}
 use Rattle.droverboot.specs.Reading.{readAnswer, listRead, Reads}
 use Rattle.drawn.specs.Says.{saysOf as drawnSays}
 use Rattle.drawn.specs.declared.Answer.the-variants.{Length}

@@ -17,7 +17,7 @@ use Rattle.looms.specs.Answers.{answerOf, lentOf, saysOf, Leaves}
 use Rattle.looms.specs.declared.Answer.{Answer}
 use Rattle.looms.proofs.Unique.{build-says}
 use Rattle.numbers.specs.Numbers.{Got, got, refused as unread}
-use Rattle.records.specs.Answers.{result}
+use Rattle.writing.specs.Answers.{result}
 use Rattle.plans.specs.Asked.{recordRead, plannedWith, planOf, treeList, Plans}
 use Rattle.plans.specs.Says.{Plan, saysPlanned}
 use Rattle.plans.specs.declared.PlanAnswer.{PlanAnswer}

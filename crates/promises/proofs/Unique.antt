@@ -2,12 +2,13 @@
 use Prim.Native.Nat.{ℕ}
 use lib.ListN.{length}
 use Rattle.net.specs.Net.{Net}
-use Rattle.checks.proofs.Unique.{check-head-one, check-segment-one, check-one}
+use Rattle.checks.proofs.Unique.{check-head-one, check-numbers-one, check-segment-one, check-one}
 use Rattle.lent.specs.Lists.{netOn}
 use Rattle.looms.proofs.Unique.{build-one}
 use Rattle.margins.proofs.Unique.{margin-one}
 use Rattle.numbers.proofs.Outcomes as numbers
-use Rattle.records.proofs.Outcomes.{read-array-unique, write-array-unique}
+use Rattle.records.proofs.Outcomes.{read-array-unique}
+use Rattle.writing.proofs.Outcomes.{write-array-unique}
 use Rattle.droverboot.proofs.Unique.{read-one}
 use Rattle.plans.proofs.Unique as plans
 use Rattle.abi.proofs.Unique as abi
@@ -50,6 +51,7 @@ unique =
       reader-number = λ r. numbers.number-unique r _ _;
       reader-moved = λ r at. numbers.moved-unique r at _ _;
       check-head = check-head-one;
+      check-numbers = check-numbers-one;
       check-segment = check-segment-one;
       check = check-one;
     }

@@ -2,8 +2,8 @@
 -- changes nothing in lent memory. An otherwise sound net is refused as not joined exactly when some post has no route to the source."
 -- One record for each entry, for whatever is lent to it. `by-the-rules` and `no-other`: document 01's rules, one for each number, give one answer for every
 -- input. `refuses`: where they refuse, every outcome that the entry's contract allows is that refusal, and what was lent is as it was. `only-then`: an outcome is
--- a refusal only where they refuse. The rules stand in net/specs/Rules, numbers/specs/Rules, records/specs/Rules and drawn/specs/Rules. What an answer says, its number
--- and values, is `saysOf`, `marginSaysOf`, `saysBy`, `saysWritten` and `saysPlanned`.
+-- a refusal only where they refuse. The rules stand in net/specs/Rules, numbers/specs/Rules, writing/specs/Rules, records/specs/Rules and drawn/specs/Rules. What
+-- an answer says, its number and values, is `saysOf`, `marginSaysOf`, `saysBy`, `saysWritten` and `saysPlanned`.
 use mathlib.Core.Path.{_≡_}
 use mathlib.Core.Logic.{_↔_}
 use mathlib.Core.List.{List}
@@ -26,11 +26,13 @@ use Rattle.looms.specs.declared.Answer.{Answer}
 use Rattle.margins.specs.declared.MarginAnswer.{MarginAnswer}
 use Rattle.numbers.specs.Numbers.{Bytes, Got, got, refused as unread}
 use Rattle.records.specs.Reading.{netRead}
-use Rattle.records.specs.Writing.{writeRefusal}
-use Rattle.records.specs.Rules.{ReadRule, WriteRule}
-use Rattle.records.specs.Answers.{refusal-of, saysBy, saysWritten, Writes}
+use Rattle.writing.specs.Writing.{writeRefusal}
+use Rattle.records.specs.Rules.{ReadRule}
+use Rattle.writing.specs.Rules.{WriteRule}
+use Rattle.records.specs.Answers.{saysBy}
+use Rattle.writing.specs.Answers.{refusal-of, saysWritten, Writes}
 use Rattle.records.specs.declared.reading.ReadAnswer.{ReadAnswer}
-use Rattle.records.specs.declared.writing.WriteAnswer.{WriteAnswer}
+use Rattle.writing.specs.declared.WriteAnswer.{WriteAnswer}
 use Rattle.droverboot.specs.Reading.{Reads}
 use Rattle.plans.specs.Asked.{recordRead, Plans}
 use Rattle.plans.specs.Says.{saysPlanned}

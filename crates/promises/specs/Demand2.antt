@@ -30,9 +30,10 @@ use Rattle.looms.specs.declared.Answer.{Answer}
 use Rattle.margins.specs.declared.MarginAnswer.{MarginAnswer}
 use Rattle.numbers.specs.Numbers.{Bytes, got}
 use Rattle.numbers.specs.Putting.{onto}
-use Rattle.records.specs.Answers.{result, saysBy, saysWritten, Writes}
+use Rattle.records.specs.Answers.{saysBy}
+use Rattle.writing.specs.Answers.{result, saysWritten, Writes}
 use Rattle.records.specs.declared.reading.ReadAnswer.{ReadAnswer}
-use Rattle.records.specs.declared.writing.WriteAnswer.{WriteAnswer}
+use Rattle.writing.specs.declared.WriteAnswer.{WriteAnswer}
 use Rattle.droverboot.specs.Reading.{Reads}
 use Rattle.plans.specs.Asked.{recordRead, Plans}
 use Rattle.plans.specs.Says.{Plan, saysPlanned}

@@ -16,7 +16,7 @@ use Rattle.lent.specs.Lists.{netOn}
 use Rattle.looms.specs.Answers.{Leaves, saysOf}
 use Rattle.looms.specs.declared.Answer.{Answer}
 use Rattle.numbers.specs.Numbers.{got}
-use Rattle.records.specs.Answers.{result}
+use Rattle.writing.specs.Answers.{result}
 use Rattle.plans.specs.Asked.{recordRead, Plans}
 use Rattle.plans.specs.Says.{Plan, saysPlanned}
 use Rattle.plans.specs.declared.PlanAnswer.{PlanAnswer}

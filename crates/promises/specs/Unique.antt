@@ -22,13 +22,14 @@ use Rattle.margins.specs.declared.MarginAnswer.{MarginAnswer}
 use Rattle.numbers.specs.Numbers.{number}
 use Rattle.records.specs.Reading.{netRead}
 use Rattle.numbers.specs.Answers.{numberedOf}
-use Rattle.records.specs.Answers.{readArrayOf, Writes}
+use Rattle.records.specs.Answers.{readArrayOf}
+use Rattle.writing.specs.Answers.{Writes}
 use Rattle.numbers.specs.Putting.{partOf}
 use Rattle.numbers.specs.declared.Numbered.{Numbered}
 use Rattle.numbers.specs.declared.reader.Reader.{Reader}
 use Rattle.records.specs.declared.reading.ReadArray.{ReadArray}
 use Rattle.records.specs.declared.reading.ReadAnswer.{ReadAnswer}
-use Rattle.records.specs.declared.writing.WriteAnswer.{WriteAnswer}
+use Rattle.writing.specs.declared.WriteAnswer.{WriteAnswer}
 use Rattle.droverboot.specs.Reading.{Reads}
 use Rattle.plans.specs.Asked.{recordRead, Plans, Rewrites, marginRead, checkRead}
 use Rattle.plans.specs.declared.PlanAnswer.{PlanAnswer}
@@ -87,5 +88,7 @@ pub record Unique : Type 0 where
   pub reader-moved : (r : Reader) (at : ℕ) {a b : Reader} → a ≡ record { bytes = r .bytes; at = at } → b ≡ record { bytes = r .bytes; at = at } → a ≡ b
   -- checks 1 to 7
   pub check-head : (h : Head) (count : ℕ) {a b : Checked} → a ≡ checkedOf (first (headLines h count)) → b ≡ checkedOf (first (headLines h count)) → a ≡ b
+  pub check-numbers : (posts x y l i : ℕ) {a b : Checked} → a ≡ checkedOf (first (segmentLines posts (record { a = x; b = y; length = l }) i))
+      → b ≡ checkedOf (first (segmentLines posts (record { a = x; b = y; length = l }) i)) → a ≡ b
   pub check-segment : (posts : ℕ) (s : Segment) (i : ℕ) {a b : Checked} → a ≡ checkedOf (first (segmentLines posts s i)) → b ≡ checkedOf (first (segmentLines posts s i)) → a ≡ b
   pub check : (h : Head) (xs ys ls : List ℕ) {a b : Checked} → a ≡ checkOf h (segmentsOf xs ys ls) → b ≡ checkOf h (segmentsOf xs ys ls) → a ≡ b

@@ -1,5 +1,5 @@
 -- How long a record is: "The longest good record has 14,346 bytes", and 14,351 bytes of a longer input are enough for the reader's answer on the whole.
--- Relies on RoundTrip, Steps and Passes.
+-- Relies on RoundTrip, Steps and Passes, and on writing's Lines and Puts.
 use Prim.Native.Nat.{ℕ, zero, suc, _+_, _*_, _-_, _<_, _≤_}
 use mathlib.Core.Bool.{Bool, true, false}
 use mathlib.Core.Path.{_≡_, refl, sym, ap}
@@ -18,11 +18,11 @@ use Rattle.net.specs.declared.Head.{Head}
 use Rattle.net.specs.declared.Refusal.{Refusal}
 use Rattle.numbers.specs.Numbers.{Bytes, Got, got, refused, groupsAt, number}
 use Rattle.records.specs.Reading.{longestRecord, enoughBytes, Reading, andThen, unless, hold, Heading, roomLines, triple, heading, segment, segments, ended, restRead, netRead}
-use Rattle.records.specs.Writing.{headWritten, segmentWritten, segmentsWritten, netWritten}
+use Rattle.writing.specs.Writing.{headWritten, segmentWritten, segmentsWritten, netWritten}
 use Rattle.numbers.proofs.Groups.{number-next}
 use Rattle.numbers.proofs.Loops.{two-bytes, three-bytes}
-use Rattle.records.proofs.Lines.{head-sound, segment-sound}
-use Rattle.records.proofs.Puts.{head-length, segment-length}
+use Rattle.writing.proofs.Lines.{head-sound, segment-sound}
+use Rattle.writing.proofs.Puts.{head-length, segment-length}
 use Rattle.records.proofs.Steps.{triple-next, segment-by, heading-by, segment-is}
 use Rattle.records.proofs.Passes.{segments-count, net-by}
 use Rattle.records.proofs.RoundTrip.{heading-run, segment-run, segments-run, segments-sound, written-of-read}

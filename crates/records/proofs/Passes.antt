@@ -1,4 +1,4 @@
--- The pass over the segments and what stands behind a head, by the ways out of the code. Relies on Steps and Sizes.
+-- The pass over the segments and what stands behind a head, by the ways out of the code. Relies on Steps.
 use Prim.Native.Nat.{ℕ, zero, suc, _+_, _*_, _-_, _<_, _≤_}
 use mathlib.Core.Path.{_≡_, refl, sym, ap, _∙_}
 use mathlib.Core.List.{List, [], _∷_, _++_, append-assoc, append-nil}

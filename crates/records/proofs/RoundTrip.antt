@@ -1,5 +1,5 @@
 -- The round trips: reading what was written gives the net back; writing what was read gives the bytes back. So two good records of one net are equal,
--- and two nets of one record are. Relies on numbers' Runs and on Steps, Passes and Lines.
+-- and two nets of one record are. Relies on numbers' Runs, on writing's Lines, and on Steps, Passes and Parsed.
 use Prim.Native.Nat.{ℕ, zero, suc, _+_, _<_, _≤_}
 use mathlib.Core.Path.{_≡_, refl, sym, ap, _∙_}
 use mathlib.Core.List.{List, [], _∷_, _++_, append-nil}
@@ -13,9 +13,9 @@ use Rattle.net.specs.declared.Segment.{Segment}
 use Rattle.net.specs.declared.Head.{Head}
 use Rattle.numbers.specs.Numbers.{Bytes, mostNumbers, written, got}
 use Rattle.records.specs.Reading.{Triple, Heading, triple, heading, segment, segments, netRead}
-use Rattle.records.specs.Writing.{headWritten, segmentWritten, segmentsWritten, netWritten}
+use Rattle.writing.specs.Writing.{headWritten, segmentWritten, segmentsWritten, netWritten}
 use Rattle.numbers.specs.Rules.{Stand}
-use Rattle.records.proofs.Lines.{head-only, head-sound, segment-only, segment-sound}
+use Rattle.writing.proofs.Lines.{head-only, head-sound, segment-only, segment-sound}
 use Rattle.numbers.proofs.Runs.{stand-append, stand-first, stand-second, stand-none, number-stands, number-is}
 use Rattle.records.proofs.Steps.{triple-is, triple-all, heading-is, heading-all, segmentFrom, segment-is, segment-all}
 use Rattle.records.proofs.Passes.{segments-more, segments-none, FirstOf, segments-first, segments-count, rest-all, net-rest}

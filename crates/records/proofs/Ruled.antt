@@ -1,5 +1,5 @@
--- Records by the rules of specs/Rules: every input has an answer by them, it has no other, and the reader computes it. Relies on numbers' RuledNumbers, Lines, Steps
--- and Passes.
+-- Records by the rules of specs/Rules: every input has an answer by them, it has no other, and the reader computes it. Relies on numbers' RuledNumbers, on
+-- writing's Lines, and on Steps and Passes.
 use Prim.Native.Nat.{ℕ, zero, suc, _+_, _-_, _<_, _≤_}
 use mathlib.Core.Bool.{Bool, true, false}
 use mathlib.Core.Path.{_≡_, refl, sym, _∙_}
@@ -20,7 +20,7 @@ use Rattle.records.specs.Reading.{andThen, Triple, Heading, triple, head
 use Rattle.net.specs.Rules.{HeadRule, SegmentRule}
 use Rattle.numbers.specs.Rules.{NumberRule}
 use Rattle.records.specs.Rules.{Row, empty, next, BreaksOff, SoundSegments, HeadStands, ReadRule, head-ten-eleven, one-to-four, eight, segment-ten-eleven, five-to-seven, twelve, good}
-use Rattle.records.proofs.Lines.{head-only, head-rule, segment-only, segment-rule}
+use Rattle.writing.proofs.Lines.{head-only, head-rule, segment-only, segment-rule}
 use Rattle.numbers.proofs.RuledNumbers.{number-only, number-answers}
 use Rattle.records.proofs.Steps.{triple-is, triple-first, triple-second, triple-third, triple-all, heading-is, heading-by, heading-stops, heading-fourth, heading-fifth, heading-all, segmentFrom, segment-stops, segment-refused, segment-all}
 use Rattle.records.proofs.Passes.{behind, behind-none, behind-one, segments-none, segments-stop, segments-more, rest-head, rest-room, rest-segments, rest-more, rest-all, net-stops, net-rest}

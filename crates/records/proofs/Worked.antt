@@ -3,7 +3,7 @@ use mathlib.Core.Path.{refl}
 use Rattle.net.specs.Refusals.{first, headLines, segmentLines}
 use Rattle.numbers.specs.Numbers.{groups, written, groupsAt, number}
 use Rattle.records.specs.Reading.{hold, roomLines, heading, segment, segments, ended, restRead, netRead}
-use Rattle.records.specs.Writing.{headWritten, segmentWritten, segmentsWritten, netWritten}
+use Rattle.writing.specs.Writing.{headWritten, segmentWritten, segmentsWritten, netWritten}
 use Rattle.records.specs.Worked.{RecordsWorked}
 
 pub records-worked : RecordsWorked

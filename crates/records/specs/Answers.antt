@@ -1,18 +1,14 @@
 -- What the answers of the code say in document 01's words: "either a result or a refusal with its number and its place".
--- Relies on `numbers`, `Reading` and `Writing`; the contracts of the code are equations with these.
-use Prim.Native.Nat.{ℕ, _-_, _<_}
-use mathlib.Core.Path.{_≡_}
+-- Relies on `numbers`, `Reading` and what `writing` calls an answer (`Said`); the contracts of the code are equations with these.
+use Prim.Native.Nat.{_-_, _<_}
 use mathlib.Core.List.{List, [], _++_}
-use mathlib.Core.Option.{Option, none, some}
 use lib.ListN.{length, replicate}
-use Rattle.net.specs.Net.{Net, netOf, every, beyond}
-use Rattle.net.specs.Refusals.{first, allSegmentLines}
+use Rattle.net.specs.Net.{Net, netOf, beyond}
 use Rattle.net.specs.declared.Segment.{Segment}
-use Rattle.net.specs.declared.Refusal.{Refusal}
 use Rattle.numbers.specs.Numbers.{Got, got, refused}
 use Rattle.numbers.specs.Answers.{saysNumbered, behindOf}
+use Rattle.writing.specs.Answers.{Said, result, refusal-of}
 use Rattle.records.specs.Reading.{andThen, Triple, Heading}
-use Rattle.records.specs.Writing.{segmentsWritten, netWritten, writeRefusal, roomAfter}
 use Rattle.numbers.specs.declared.Numbered.{Numbered}
 use Rattle.records.specs.declared.reading.Three.{Three}
 use Rattle.records.specs.declared.reading.Three.the-variants.{Numbers, Refused as ThreeRefused}
@@ -25,15 +21,6 @@ use Rattle.records.specs.declared.reading.SegmentsRead.{SegmentsRead}
 use Rattle.records.specs.declared.reading.ReadAnswer.{ReadAnswer}
 use Rattle.records.specs.declared.reading.ReadAnswer.the-variants.{Read, Refused as ReadRefused}
 use Rattle.records.specs.declared.reading.ReadArray.{ReadArray}
-use Rattle.records.specs.declared.writing.Sized.{Sized}
-use Rattle.records.specs.declared.writing.Sized.the-variants.{Size, Refused as SizeRefused}
-use Rattle.records.specs.declared.writing.WriteAnswer.{WriteAnswer}
-use Rattle.records.specs.declared.writing.WriteAnswer.the-variants.{Written, Refused as WriteRefused}
-
--- "An answer is either a result or a refusal"
-pub data Said (X : Type 0) : Type 0 where
-  result : X → Said X
-  refusal-of : Refusal → Said X
 
 abbrev pub saidOf : {X : Type 0} → Got X → Said X
 saidOf (got x next) = result x
@@ -87,32 +74,3 @@ saysBy (ReadRefused r) ss = refusal-of r
 
 abbrev pub saysRead : ReadArray → Said Net
 saysRead a = saysBy (a .answer) (a .segments)
-
--- WRITING: what some segments take, or 5, 6 or 7
-abbrev pub sizedBy : Option Refusal → ℕ → Sized
-sizedBy none size = Size size
-sizedBy (some r) size = SizeRefused r
-
-unfoldable pub sizedOf : ℕ → List Segment → Sized
-sizedOf posts ss = sizedBy (first (allSegmentLines every posts ss)) (length (segmentsWritten ss))
-
--- the record's length, or a refusal
-abbrev pub writeAnswerBy : Option Refusal → ℕ → WriteAnswer
-writeAnswerBy none size = Written size
-writeAnswerBy (some r) size = WriteRefused r
-
-unfoldable pub writeAnswerOf : Net → ℕ → ℕ → WriteAnswer
-writeAnswerOf n m room = writeAnswerBy (writeRefusal n m room) (length (netWritten n))
-
-abbrev pub saidSize : Option Refusal → ℕ → Said ℕ
-saidSize none size = result size
-saidSize (some r) size = refusal-of r
-
-abbrev pub saysWritten : WriteAnswer → Said ℕ
-saysWritten (Written size) = result size
-saysWritten (WriteRefused r) = refusal-of r
-
--- what writing does: the answer, and the room afterwards
-pub record Writes (n : Net) (m : ℕ) (room : List ℕ) (answer : WriteAnswer) (after : List ℕ) : Type 0 where
-  pub answers : answer ≡ writeAnswerOf n m (length room)
-  pub leaves : after ≡ roomAfter n m room

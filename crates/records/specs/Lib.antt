@@ -1,6 +1,6 @@
--- What document 01 says of the record, in its words and its order. Definitions only; what is proved of them stands in proofs/.
+-- What document 01 says of reading a record, in its words and its order, and its worked examples both ways; of writing, the crate `writing`. Definitions
+-- only; what is proved of them stands in proofs/.
 pub mod Reading
-pub mod Writing
 pub mod Answers
 pub mod Rules
 pub mod Worked

@@ -1,19 +1,18 @@
--- Reading and writing a record as rules, one constructor for each refusal with its place, without tests and without an order of work: each says that nothing
--- before it holds. proofs/Ruled and proofs/RuledWriting prove that every record and every net has an answer by these rules, that it has no other, and that
--- `Reading` and `Writing` compute it. A single number's rules are those of the crate `numbers`.
+-- Reading a record as rules, one constructor for each refusal with its place, without tests and without an order of work: each says that nothing before it
+-- holds. proofs/Ruled proves that every record has an answer by these rules, that it has no other, and that `Reading` computes it. A single number's rules
+-- are those of the crate `numbers`, and writing's those of the crate `writing`.
 use Prim.Native.Nat.{ℕ, _<_, _≤_}
 use mathlib.Core.List.{List, [], _∷_, _++_}
-use mathlib.Core.Option.{Option, none, some}
+use mathlib.Core.Option.{none, some}
 use lib.ListN.{length}
-use Rattle.net.specs.Net.{Net, every}
+use Rattle.net.specs.Net.{Net}
 use Rattle.net.specs.Refusals.{refusal}
-use Rattle.net.specs.Rules.{HeadRule, SegmentRule, NetSound, Faulty}
+use Rattle.net.specs.Rules.{HeadRule, SegmentRule}
 use Rattle.net.specs.declared.Segment.{Segment}
 use Rattle.net.specs.declared.Head.{Head}
 use Rattle.net.specs.declared.Refusal.{Refusal}
 use Rattle.numbers.specs.Numbers.{Got, got, refused}
 use Rattle.numbers.specs.Rules.{NumberRule}
-use Rattle.records.specs.Writing.{netWritten}
 
 module _ (bytes : List ℕ) where
   -- numbers in a row, from one offset to another
@@ -53,9 +52,3 @@ module _ (bytes : List ℕ) where
         → SoundSegments (h .posts) start ss at → at < length bytes → ReadRule room (refused (refusal 12 at))
     good : {h : Head} {start at : ℕ} {ss : List Segment} → HeadStands h (length ss) start → HeadRule h (length ss) none → length ss ≤ room
         → SoundSegments (h .posts) start ss at → length bytes ≤ at → ReadRule room (got (record { head = h; segments = ss }) at)
-
--- A NET, written into a lent room: "Writing: 1 to 7, then 18." m is the number of segments that is claimed
-pub data WriteRule (m : ℕ) (n : Net) (room : ℕ) : Option Refusal → Type 0 where
-  one-to-seven : {r : Refusal} → Faulty every m n r → WriteRule m n room (some r)
-  eighteen : NetSound every m n → room < length (netWritten n) → WriteRule m n room (some (refusal 18 0))
-  nothing : NetSound every m n → length (netWritten n) ≤ room → WriteRule m n room none

@@ -8,7 +8,7 @@ use Rattle.net.specs.Refusals.{refusal}
 use Rattle.net.specs.declared.Segment.{Segment}
 use Rattle.numbers.specs.Numbers.{written, got, refused, number}
 use Rattle.records.specs.Reading.{netRead}
-use Rattle.records.specs.Writing.{netWritten}
+use Rattle.writing.specs.Writing.{netWritten}
 
 abbrev pub joined : ℕ → ℕ → ℕ → Segment
 joined a b l = record { a = a; b = b; length = l }

@@ -1,8 +1,8 @@
 // Reading a record: the five head numbers, 1 to 4, 8, then each segment's three numbers and its 5, 6, 7, then 12. A reader carries the bytes from number to
 // number, in one pass; where a number is refused it stays, and the first refusal is the answer.
 // What is read stands in an array of its own, and a refusal leaves it zero: nothing is stored before the whole record is found good.
-use crate::refusals::segment_refusal;
 use checks::check_head;
+use checks::check_numbers;
 use net::Checked;
 use net::Head;
 use net::Refusal;
@@ -168,7 +168,7 @@ fn segment_at(bytes: &[u8], at: usize, posts: u32, i: u32) -> SegmentRead
     match three {
         Three::Refused(r) => SegmentRead::Refused(r),
         Three::Numbers { a, b, c, next } => {
-            let checked = segment_refusal(posts, a, b, c, i);
+            let checked = check_numbers(posts, a, b, c, i);
             match checked {
                 Checked::Refused(r) => SegmentRead::Refused(r),
                 Checked::Sound => SegmentRead::Read {

@@ -8,10 +8,10 @@ use Rattle.lent.proofs.Types as T
 use Rattle.lent.proofs.gather as gather
 use Rattle.lent.proofs.gather.Symbol as gather-def
 use Rattle.lent.proofs.gather.Met as gather-thm
-use Rattle.records.proofs.writing.write_array as core
-use Rattle.records.proofs.writing.write_array.Symbol as core-def
-use Rattle.records.proofs.writing.write_array.Met as core-thm
-use Rattle.records.specs.Answers.{Writes}
+use Rattle.writing.proofs.write_array as core
+use Rattle.writing.proofs.write_array.Symbol as core-def
+use Rattle.writing.proofs.write_array.Met as core-thm
+use Rattle.writing.specs.Answers.{Writes}
 use Rattle.droverboot.proofs.Types as O
 use Rattle.droverboot.proofs.Laws.{writes-list}
 use Rattle.droverboot.proofs.write.Key as key
@@ -30,7 +30,7 @@ module _ {M : Type 1} (𝓤 : URA M) (H : Heap 𝓤) (𝓜 : Model 𝓤 H) (𝓖
   to-gather = callee 𝓤 H 𝓜 𝓖 𝓡 code.env 1 (shr 0 tt Segment.the-row ∷ []) T.segments (gather.clauses 𝓤 H (𝓖 .A) (𝓜 .mem) (𝓡 .run)) gather-def.name gather-def.routine code.calls-lent·gather (gather-thm.met 𝓤 H 𝓜 𝓖 𝓡)
 
   abbrev to-core : Callee 𝓤 H (𝓖 .A) (𝓣 .C) core-def.name
-  to-core = callee 𝓤 H 𝓜 𝓖 𝓡 code.env 1 (dat T.head ∷ dat T.usize ∷ dat T.segments ∷ own 0 tt u8 ∷ []) O.write-answer (core.clauses 𝓤 H (𝓖 .A) (𝓜 .mem) (𝓡 .run)) core-def.name core-def.routine code.calls-records·writing·write-array (core-thm.met 𝓤 H 𝓜 𝓖 𝓡)
+  to-core = callee 𝓤 H 𝓜 𝓖 𝓡 code.env 1 (dat T.head ∷ dat T.usize ∷ dat T.segments ∷ own 0 tt u8 ∷ []) O.write-answer (core.clauses 𝓤 H (𝓖 .A) (𝓜 .mem) (𝓡 .run)) core-def.name core-def.routine code.calls-writing·write-array (core-thm.met 𝓤 H 𝓜 𝓖 𝓡)
 
   walk : Walk 𝓤 H (𝓖 .A) (givenOf 𝓤 H 𝓜 𝓖) 2 ks O.write-answer (f.clauses 𝓤 H (𝓖 .A) (𝓜 .mem) (𝓡 .run)) 𝓣 code.function
   walk κs qs a g are ok-args P exit =

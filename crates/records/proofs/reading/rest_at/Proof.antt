@@ -2,8 +2,7 @@
 use mathlib.Core.Path.{refl}
 use native.Mathlib.Omega.{arith}
 use borrow.Author.Needs.{needs}
-use Rattle.records.proofs.Lines.{head-sound}
-use Rattle.records.proofs.Sizes.{refused-lines, sound-lines}
+use Rattle.writing.proofs.Lines.{head-sound, refused-lines, sound-lines}
 use Rattle.records.proofs.Passes.{segments-stopped, segments-given, segments-count, rest-head, rest-room, rest-segments, rest-more, rest-all, array-refused, array-read}
 use Rattle.records.proofs.reading.rest_at.Statement.{statement}
 use Rattle.records.proofs.reading.rest_at.Tie as tie

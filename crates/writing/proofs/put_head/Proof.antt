@@ -1,0 +1,41 @@
+-- `put_head` meets its contract: five numbers, each put behind the one before. Assumes nothing.
+use mathlib.Core.Path.{_∙_}
+use native.Mathlib.Nat.{zero-add}
+use native.Mathlib.Omega.{arith}
+use borrow.Author.Needs.{needs}
+use Rattle.writing.proofs.Puts.{head-length, head-put}
+use Rattle.writing.proofs.put_head.Statement.{statement}
+use Rattle.writing.proofs.put_head.Tie as tie
+
+put-at-requires : tie.Need-put-at-requires
+put-at-requires c κs = (c .before .before .pre .few-posts, omega (arith, head-length (c .before .before .args .head) (c .before .before .args .count), c .before .before .pre .room-long))
+
+put-at-requires-2 : tie.Need-put-at-requires-2
+put-at-requires-2 c κs = (c .before .before .before .before .before .before .pre .few-source, omega (arith, head-length (c .before .before .before .before .before .before .args .head) (c .before .before .before .before .before .before .args .count), c .before .before .before .before .before .before .pre .room-long, c .before .before .before .put-at .ensures .0, c .before .before .before .put-at .kept .0))
+
+put-at-requires-3 : tie.Need-put-at-requires-3
+put-at-requires-3 c κs = (c .before .before .before .before .before .before .before .before .before .before .pre .few-p, omega (arith, head-length (c .before .before .before .before .before .before .before .before .before .before .args .head) (c .before .before .before .before .before .before .before .before .before .before .args .count), c .before .before .before .before .before .before .before .before .before .before .pre .room-long, c .before .before .before .before .before .before .before .put-at .ensures .0, c .before .before .before .before .before .before .before .put-at .kept .0, c .before .before .before .put-at2 .ensures .0, c .before .before .before .put-at2 .kept .0))
+
+put-at-requires-4 : tie.Need-put-at-requires-4
+put-at-requires-4 c κs = (c .before .before .before .before .before .before .before .before .before .before .before .before .before .before .pre .few-q, omega (arith, head-length (c .before .before .before .before .before .before .before .before .before .before .before .before .before .before .args .head) (c .before .before .before .before .before .before .before .before .before .before .before .before .before .before .args .count), c .before .before .before .before .before .before .before .before .before .before .before .before .before .before .pre .room-long, c .before .before .before .before .before .before .before .before .before .before .before .put-at .ensures .0, c .before .before .before .before .before .before .before .before .before .before .before .put-at .kept .0, c .before .before .before .before .before .before .before .put-at2 .ensures .0, c .before .before .before .before .before .before .before .put-at2 .kept .0, c .before .before .before .put-at3 .ensures .0, c .before .before .before .put-at3 .kept .0))
+
+put-at-requires-5 : tie.Need-put-at-requires-5
+put-at-requires-5 c κs = (c .before .before .before .before .before .before .before .before .before .before .before .before .before .before .before .before .before .before .pre .few-count, omega (arith, head-length (c .before .before .before .before .before .before .before .before .before .before .before .before .before .before .before .before .before .before .args .head) (c .before .before .before .before .before .before .before .before .before .before .before .before .before .before .before .before .before .before .args .count), c .before .before .before .before .before .before .before .before .before .before .before .before .before .before .before .before .before .before .pre .room-long, c .before .before .before .before .before .before .before .before .before .before .before .before .before .before .before .put-at .ensures .0, c .before .before .before .before .before .before .before .before .before .before .before .before .before .before .before .put-at .kept .0, c .before .before .before .before .before .before .before .before .before .before .before .put-at2 .ensures .0, c .before .before .before .before .before .before .before .before .before .before .before .put-at2 .kept .0, c .before .before .before .before .before .before .before .put-at3 .ensures .0, c .before .before .before .before .before .before .before .put-at3 .kept .0, c .before .before .before .put-at4 .ensures .0, c .before .before .before .put-at4 .kept .0))
+
+same-length : tie.Need-same-length
+same-length c = search needs
+
+returns : tie.Need-returns
+returns c = let w = head-put (c .before .before .before .before .before .before .before .before .before .before .before .before .before .before .before .before .before .before .before .before .before .args .head) (c .before .before .before .before .before .before .before .before .before .before .before .before .before .before .before .before .before .before .before .before .before .args .count) (c .before .before .before .before .before .before .before .before .before .before .before .before .before .before .before .before .before .before .before .before .before .pre .room-long) (c .before .before .before .before .before .before .before .before .before .before .before .before .before .before .before .before .before .before .put-at .ensures .0) (c .before .before .before .before .before .before .before .before .before .before .before .before .before .before .before .before .before .before .put-at .ensures .1) (c .before .before .before .before .before .before .before .before .before .before .before .before .before .before .put-at2 .ensures .0) (c .before .before .before .before .before .before .before .before .before .before .before .before .before .before .put-at2 .ensures .1) (c .before .before .before .before .before .before .before .before .before .before .put-at3 .ensures .0) (c .before .before .before .before .before .before .before .before .before .before .put-at3 .ensures .1) (c .before .before .before .before .before .before .put-at4 .ensures .0) (c .before .before .before .before .before .before .put-at4 .ensures .1) (c .before .before .put-at5 .ensures .0) (c .before .before .put-at5 .ensures .1) in (w .next-is ∙ zero-add _, w .room-is)
+
+pub put-head-spec : {M : Type 1} → statement M
+put-head-spec =
+    tie.close
+    (tie.spec
+    put-at-requires
+    put-at-requires-2
+    put-at-requires-3
+    put-at-requires-4
+    put-at-requires-5
+    same-length
+    returns)
