@@ -1,7 +1,6 @@
 -- What a margin that is given means: below zero exactly when the post breaks the limit, zero exactly at the limit, 0 for the source, and never below zero in the
 -- third tree nor in the shortest.
 use mathlib.Core.Path.{_≡_, refl, sym, _∙_}
-use mathlib.Core.List.{List}
 use mathlib.Core.Bool.{false}
 use mathlib.Core.Logic.{_↔_}
 use mathlib.Core.Option.{Option, none, some}
@@ -10,13 +9,11 @@ use native.Mathlib.Omega.{arith}
 use lib.Dec.{ltb}
 use lib.IntN.{ℤ, pos}
 use lib.Signed.{ltZ}
-use lib.ListN.{length, length-take}
-use Rattle.net.specs.Net.{Net, every, netOf}
+use lib.ListN.{length}
+use Rattle.net.specs.Net.{Net, every}
 use Rattle.net.specs.Rules.{NetSound, AllJoined}
 use Rattle.net.specs.Trees.{at, pathIn}
 use Rattle.net.specs.Building.{leastLengthsOf, treeOf, marginRefusal, marginIn, marginAnswer, marginOf}
-use Rattle.net.specs.declared.Head.{Head}
-use Rattle.net.specs.declared.Segment.{Segment}
 use Rattle.net.specs.declared.Refusal.{Refusal}
 use Rattle.net.specs.declared.Tree.{Tree}
 use Rattle.net.specs.declared.Tree.the-variants.{Shortest, Between}
@@ -26,10 +23,6 @@ use Rattle.net.proofs.Demand.{between-margin, shortest-margin, source-margin}
 use Rattle.margins.specs.Answers.{marginAnswerOf}
 use Rattle.margins.specs.declared.MarginAnswer.{MarginAnswer}
 use Rattle.margins.specs.declared.MarginAnswer.the-variants.{Margin}
-
--- the net of an array has no more segments than are claimed
-pub array-fits : (head : Head) (count : ℕ) (segments : List Segment) → length ((netOf head count segments) .segments) ≤ count
-array-fits head count segments = omega (arith, length-take count segments)
 
 -- A MARGIN THAT IS GIVEN, of a net that claims m segments
 module _ (n : Net) (m : ℕ) (t : Tree) (post : ℕ) {x : MarginAnswer} (is : x ≡ marginAnswerOf (marginOf every n m t post)) {z : ℤ} (given : x ≡ Margin z) where

@@ -1,5 +1,6 @@
 -- What is answered of a record, and what the lent lists hold afterwards: a refusal of reading is the answer, and then nothing is changed;
--- otherwise it is what building, writing or margin answers of the net that was read. Relies on records' `netRead` and `Writing`, net's `Building`, looms' and margins' `Answers`.
+-- otherwise it is what building, writing or margin answers of the net that was read. Relies on records' `netRead`, writing's `Writing` and
+-- `Answers`, net's `Building`, looms' and margins' `Answers`.
 use mathlib.Core.Path.{_≡_}
 use mathlib.Core.List.{List}
 use Prim.Native.Nat.{ℕ}

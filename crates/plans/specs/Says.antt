@@ -1,4 +1,4 @@
--- What the answers say in document 01's terms: `saysPlanned` for each case of the code's enum (those of the other enums stand in records, looms, margins and net), and
+-- What the answers say in document 01's terms: `saysPlanned` for each case of the code's enum (those of the other enums stand in writing, margins and net), and
 -- beside it what is to be said of a record. Relies on `Asked`; proofs/Unique joins the two.
 use mathlib.Core.Option.{Option, none, some}
 use Prim.Native.Nat.{ℕ}

@@ -1,11 +1,12 @@
 -- Demand 1 of every entry, from its contract.
-use mathlib.Core.Path.{_≡_, sym, ap, _∙_}
+use mathlib.Core.Path.{_≡_, refl, sym, ap, _∙_}
 use mathlib.Core.List.{List}
 use mathlib.Core.Option.{Option, none, some}
 use Prim.Native.Nat.{ℕ}
 use native.Mathlib.Omega.{arith}
 use lib.ListN.{length}
 use Rattle.net.specs.Net.{Net, every}
+use Rattle.net.specs.Refusals.{saysOf as checkSays}
 use Rattle.net.specs.Building.{buildRefusal, buildAnswer, buildOf, listAfter, afterBuild, marginRefusal, marginAnswer, marginOf}
 use Rattle.net.specs.Building as B
 use Rattle.net.specs.declared.Segment.{Segment}
@@ -30,12 +31,12 @@ use Rattle.writing.specs.declared.WriteAnswer.{WriteAnswer}
 use Rattle.records.proofs.Ruled.{read-answers, read-only}
 use Rattle.writing.proofs.RuledWriting.{write-answers, write-only}
 use Rattle.droverboot.specs.Reading.{readAnswer, listRead}
-use Rattle.plans.specs.Asked.{recordRead, plannedWith, planOf, treeList, Plans}
+use Rattle.plans.specs.Asked.{recordRead, plannedWith, planOf, treeList, Plans, rewriteOf, roomOf, Rewrites, marginSaid, marginRead, checkRead}
 use Rattle.plans.specs.Says.{saysPlanned}
 use Rattle.plans.specs.declared.PlanAnswer.{PlanAnswer}
 use Rattle.drawn.specs.declared.Run.{Run}
 use Rattle.drawn.proofs.Rules.{outcome-answers, outcome-only}
-use Rattle.promises.specs.Demand1.{BuildRefuses, MarginRefuses, ReadRefuses, WriteRefuses, PlanRefuses, DrawnRefuses, Demand1}
+use Rattle.promises.specs.Demand1.{BuildRefuses, MarginRefuses, ReadRefuses, WriteRefuses, OnRecord, by-reading, by-net, PlanRefuses, RewriteRefuses, RecordMarginRefuses, CheckRefuses, DrawnRefuses, Demand1}
 
 module _ (n : Net) (m : ℕ) (l s w : List ℕ) where
   kept : (r : Refusal) → buildRefusal every n m (lentOf l s w) ≡ some r → (t : Tree) (before now : List ℕ) → now ≡ afterBuild every n m (lentOf l s w) t before → now ≡ before
@@ -139,8 +140,68 @@ module _ (bytes l s w : List ℕ) where
     kept n (length (n .segments)) l s w r e Between w _ (k .between ∙ ap (λ g. treeList g (lentOf l s w) Between w) i),
   )
 
+  refused-plan : {a : PlanAnswer} {l′ s′ w′ : List ℕ} → Plans bytes l s w a l′ s′ w′ → (r : Refusal)
+      → OnRecord bytes (λ n. buildRefusal every n (length (n .segments)) (lentOf l s w)) r → (saysPlanned a ≡ refusal-of r) × (l′ ≡ l) × (s′ ≡ s) × (w′ ≡ w)
+  refused-plan k r (by-reading e) = unread-plan k r e
+  refused-plan k r (by-net n next i e) = unbuilt-plan k n next i r e
+
+  built-held : {r : Refusal} (n : Net) (o : Option Refusal) → saysPlanned (plannedWith (n .head) (length (n .segments)) (buildAnswer every n o)) ≡ refusal-of r → o ≡ some r
+  unfolding buildAnswer
+  built-held n none e = absurd (let k : _≡_ {A = ℕ} 0 1 = cc in omega arith)
+  built-held n (some x) e = cc
+
+  plan-held : {r : Refusal} (g : Got Net) → recordRead bytes ≡ g → saysPlanned (planOf g (lentOf l s w)) ≡ refusal-of r
+      → OnRecord bytes (λ n. buildRefusal every n (length (n .segments)) (lentOf l s w)) r
+  unfolding buildOf
+  plan-held (got n next) i e = by-net n next i (built-held n (buildRefusal every n (length (n .segments)) (lentOf l s w)) e)
+  plan-held {r} (refused x) i e = by-reading (i ∙ (let k : _≡_ {A = Got Net} (refused x) (refused r) = cc in k))
+
   pub plan-refuses : PlanRefuses bytes l s w
-  plan-refuses = record { reading-refuses = unread-plan; building-refuses = unbuilt-plan }
+  plan-refuses = record { refuses = refused-plan; only-then = λ k r e. plan-held (recordRead bytes) refl (ap saysPlanned (sym (k .answer)) ∙ e) }
+
+module _ (bytes room : List ℕ) where
+  refused-rewrite : {a : WriteAnswer} {x : List ℕ} → Rewrites bytes room a x → (r : Refusal)
+      → OnRecord bytes (λ n. writeRefusal n (length (n .segments)) (length room)) r → (saysWritten a ≡ refusal-of r) × (x ≡ room)
+  refused-rewrite k r (by-reading e) = (ap saysWritten (k .answers ∙ ap (λ g. rewriteOf g (length room)) e), k .leaves ∙ ap (λ g. roomOf g room) e)
+  refused-rewrite k r (by-net n next i e) =
+      write-refuses n (length (n .segments)) room .refuses
+      (record { answers = k .answers ∙ ap (λ g. rewriteOf g (length room)) i; leaves = k .leaves ∙ ap (λ g. roomOf g room) i })
+      r
+      e
+
+  rewrite-held : {r : Refusal} (g : Got Net) → recordRead bytes ≡ g → saysWritten (rewriteOf g (length room)) ≡ refusal-of r
+      → OnRecord bytes (λ n. writeRefusal n (length (n .segments)) (length room)) r
+  unfolding writeAnswerOf
+  rewrite-held (got n next) i e = by-net n next i (write-held n (length (n .segments)) room (writeRefusal n (length (n .segments)) (length room)) e)
+  rewrite-held {r} (refused x) i e = by-reading (i ∙ (let k : _≡_ {A = Got Net} (refused x) (refused r) = cc in k))
+
+  pub rewrite-refuses : RewriteRefuses bytes room
+  rewrite-refuses = record { refuses = refused-rewrite; only-then = λ k r e. rewrite-held (recordRead bytes) refl (ap saysWritten (sym (k .answers)) ∙ e) }
+
+module _ (bytes : List ℕ) (t : Tree) (post : ℕ) where
+  refused-record-margin : {a : MarginAnswer} → a ≡ marginRead bytes t post → (r : Refusal) → OnRecord bytes (λ n. marginRefusal every n (length (n .segments)) post) r
+      → marginSaysOf a ≡ B.MarginAnswer.refused r
+  refused-record-margin k r (by-reading e) = ap marginSaysOf (k ∙ ap (λ g. marginAnswerOf (marginSaid g t post)) e)
+  refused-record-margin k r (by-net n next i e) = refused-margin n (length (n .segments)) t post (k ∙ ap (λ g. marginAnswerOf (marginSaid g t post)) i) r e
+
+  record-margin-held : {r : Refusal} (g : Got Net) → recordRead bytes ≡ g → marginSaysOf (marginAnswerOf (marginSaid g t post)) ≡ B.MarginAnswer.refused r
+      → OnRecord bytes (λ n. marginRefusal every n (length (n .segments)) post) r
+  record-margin-held {r} (got n next) i e = by-net n next i (margin-refused n (length (n .segments)) t post refl r e)
+  record-margin-held {r} (refused x) i e = by-reading (i ∙ (let k : _≡_ {A = Got Net} (refused x) (refused r) = cc in k))
+
+  pub record-margin-refuses : RecordMarginRefuses bytes t post
+  record-margin-refuses = record { refuses = refused-record-margin; only-then = λ k r e. record-margin-held (recordRead bytes) refl (ap marginSaysOf (sym k) ∙ e) }
+
+check-held : {r : Refusal} (g : Got Net) → checkSays (checkRead g) ≡ some r → g ≡ refused r
+check-held (got n next) e = absurd (let k : _≡_ {A = ℕ} 0 1 = cc in omega arith)
+check-held (refused x) e = cc
+
+pub check-refuses : (bytes : List ℕ) → CheckRefuses bytes
+check-refuses bytes =
+    record {
+      refuses = λ k r e. ap checkSays (k ∙ ap checkRead e);
+      only-then = λ k r e. check-held (recordRead bytes) (ap checkSays (sym k) ∙ e);
+    }
 
 pub drawn-refuses : (run : Run) → DrawnRefuses run
 drawn-refuses run = record { by-the-rules = λ e. outcome-answers run _ e; no-other = λ e s. outcome-only run _ s e }
@@ -154,5 +215,8 @@ demand-1 =
       read = read-refuses;
       write = λ h segments. write-refuses (netOn h segments) (length segments);
       plan = plan-refuses;
+      rewrite = rewrite-refuses;
+      margin-read = record-margin-refuses;
+      check-read = check-refuses;
       drawn = drawn-refuses;
     }

@@ -26,7 +26,7 @@ use Rattle.looms.specs.declared.Answer.{Answer}
 use Rattle.margins.specs.declared.MarginAnswer.{MarginAnswer}
 use Rattle.looms.proofs.Unique.{says-answer}
 use Rattle.margins.proofs.Unique.{margin-answer-says, margin-says}
-use Rattle.plans.specs.Asked.{Plans}
+use Rattle.plans.specs.Asked.{Plans, recordRead, marginSaid, marginRead}
 use Rattle.plans.specs.Says.{Plan, saysPlanned}
 use Rattle.plans.specs.declared.PlanAnswer.{PlanAnswer}
 use Rattle.margins.specs.declared.MarginAnswer.the-variants.{Margin}
@@ -140,6 +140,12 @@ module _ (n : Net) (m : ℕ) (fits : length (n .segments) ≤ m) (t : Tree) (pos
         shortest-within = given-shortest n m t post is given fits;
       }
 
+-- of a record: the margin of the net that was read
+pub record-margin-as-stated : (bytes : List ℕ) (t : Tree) (post : ℕ) {a : MarginAnswer} {z : ℤ} → a ≡ marginRead bytes t post → marginSaysOf a ≡ B.MarginAnswer.margin z
+    → {n : Net} {next : ℕ} → recordRead bytes ≡ got n next → MarginAsStated n t post z
+record-margin-as-stated bytes t post is says {n} i =
+    margin-as-stated n (length (n .segments)) (le-refl (length (n .segments))) t post (is ∙ ap (λ g. marginAnswerOf (marginSaid g t post)) i) says
+
 -- RECORDS
 -- a net of which writing says a size was written, and the front of the room is its record
 record Recorded (n : Net) (size : ℕ) (x : List ℕ) : Type 0 where
@@ -220,6 +226,7 @@ demand-2 =
       build = λ h segments l s w. built-as-stated (netOn h segments) (length segments) (le-refl (length segments)) l s w;
       plan = planned-as-stated;
       margin = λ h segments. margin-as-stated (netOn h segments) (length segments) (le-refl (length segments));
+      margin-read = record-margin-as-stated;
       records = records-both-ways;
       drawn = drawn-as-stated;
     }

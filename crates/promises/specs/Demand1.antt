@@ -2,8 +2,9 @@
 -- changes nothing in lent memory. An otherwise sound net is refused as not joined exactly when some post has no route to the source."
 -- One record for each entry, for whatever is lent to it. `by-the-rules` and `no-other`: document 01's rules, one for each number, give one answer for every
 -- input. `refuses`: where they refuse, every outcome that the entry's contract allows is that refusal, and what was lent is as it was. `only-then`: an outcome is
--- a refusal only where they refuse. The rules stand in net/specs/Rules, numbers/specs/Rules, writing/specs/Rules, records/specs/Rules and drawn/specs/Rules. What
--- an answer says, its number and values, is `saysOf`, `marginSaysOf`, `saysBy`, `saysWritten` and `saysPlanned`.
+-- a refusal only where they refuse; of a record both are said of reading and then of the net that was read (`OnRecord`). The rules stand in net/specs/Rules, numbers/specs/Rules, writing/specs/Rules, records/specs/Rules and drawn/specs/Rules. What
+-- an answer says, its number and values, is `saysOf`, `marginSaysOf`, `saysBy`, `saysWritten`, `saysPlanned` and, of a
+-- check, `checkSays`.
 use mathlib.Core.Path.{_≡_}
 use mathlib.Core.Logic.{_↔_}
 use mathlib.Core.List.{List}
@@ -11,7 +12,7 @@ use mathlib.Core.Option.{Option, some}
 use Prim.Native.Nat.{ℕ, _<_}
 use lib.ListN.{length}
 use Rattle.net.specs.Net.{Net, every}
-use Rattle.net.specs.Refusals.{refusal}
+use Rattle.net.specs.Refusals.{refusal, saysOf as checkSays}
 use Rattle.net.specs.Rules.{NetSound, LongEnough, Joined, LowestApart, BuildRule, MarginRule}
 use Rattle.net.specs.Building.{refused, buildRefusal, marginRefusal, marginOf}
 use Rattle.net.specs.Building as B
@@ -19,6 +20,7 @@ use Rattle.net.specs.declared.Head.{Head}
 use Rattle.net.specs.declared.Segment.{Segment}
 use Rattle.net.specs.declared.Refusal.{Refusal}
 use Rattle.net.specs.declared.Tree.{Tree}
+use Rattle.net.specs.declared.Checked.{Checked}
 use Rattle.lent.specs.Lists.{netOn}
 use Rattle.looms.specs.Answers.{lentOf, Leaves, saysOf}
 use Rattle.margins.specs.Answers.{marginAnswerOf, marginSaysOf}
@@ -34,7 +36,7 @@ use Rattle.writing.specs.Answers.{refusal-of, saysWritten, Writes}
 use Rattle.records.specs.declared.reading.ReadAnswer.{ReadAnswer}
 use Rattle.writing.specs.declared.WriteAnswer.{WriteAnswer}
 use Rattle.droverboot.specs.Reading.{Reads}
-use Rattle.plans.specs.Asked.{recordRead, Plans}
+use Rattle.plans.specs.Asked.{recordRead, Plans, Rewrites, marginRead, checkRead}
 use Rattle.plans.specs.Says.{saysPlanned}
 use Rattle.plans.specs.declared.PlanAnswer.{PlanAnswer}
 use Rattle.drawn.specs.Drawn.{drawnOf}
@@ -77,12 +79,36 @@ pub record WriteRefuses (n : Net) (m : ℕ) (room : List ℕ) : Type 0 where
   pub refuses : {a : WriteAnswer} {x : List ℕ} → Writes n m room a x → (r : Refusal) → writeRefusal n m (length room) ≡ some r → (saysWritten a ≡ refusal-of r) × (x ≡ room)
   pub only-then : {a : WriteAnswer} {x : List ℕ} → Writes n m room a x → (r : Refusal) → saysWritten a ≡ refusal-of r → writeRefusal n m (length room) ≡ some r
 
+-- ON A RECORD: reading refuses it, or what is done with the net that was read is refused
+pub data OnRecord (bytes : List ℕ) (refusing : Net → Option Refusal) (r : Refusal) : Type 0 where
+  by-reading : recordRead bytes ≡ unread r → OnRecord bytes refusing r
+  by-net : (n : Net) (next : ℕ) → recordRead bytes ≡ got n next → refusing n ≡ some r → OnRecord bytes refusing r
+
 -- PLANNING a record, with three lists that hold l, s and w: reading refuses it, or building the net that was read
 pub record PlanRefuses (bytes l s w : List ℕ) : Type 0 where
-  pub reading-refuses : {a : PlanAnswer} {l′ s′ w′ : List ℕ} → Plans bytes l s w a l′ s′ w′
-      → (r : Refusal) → recordRead bytes ≡ unread r → (saysPlanned a ≡ refusal-of r) × (l′ ≡ l) × (s′ ≡ s) × (w′ ≡ w)
-  pub building-refuses : {a : PlanAnswer} {l′ s′ w′ : List ℕ} → Plans bytes l s w a l′ s′ w′ → (n : Net) (next : ℕ) → recordRead bytes ≡ got n next
-      → (r : Refusal) → buildRefusal every n (length (n .segments)) (lentOf l s w) ≡ some r → (saysPlanned a ≡ refusal-of r) × (l′ ≡ l) × (s′ ≡ s) × (w′ ≡ w)
+  pub refuses : {a : PlanAnswer} {l′ s′ w′ : List ℕ} → Plans bytes l s w a l′ s′ w′ → (r : Refusal)
+      → OnRecord bytes (λ n. buildRefusal every n (length (n .segments)) (lentOf l s w)) r → (saysPlanned a ≡ refusal-of r) × (l′ ≡ l) × (s′ ≡ s) × (w′ ≡ w)
+  pub only-then : {a : PlanAnswer} {l′ s′ w′ : List ℕ} → Plans bytes l s w a l′ s′ w′ → (r : Refusal) → saysPlanned a ≡ refusal-of r
+      → OnRecord bytes (λ n. buildRefusal every n (length (n .segments)) (lentOf l s w)) r
+
+-- WRITING a record AGAIN, into a room that holds those bytes: reading refuses it, or writing the net that was read
+pub record RewriteRefuses (bytes room : List ℕ) : Type 0 where
+  pub refuses : {a : WriteAnswer} {x : List ℕ} → Rewrites bytes room a x → (r : Refusal)
+      → OnRecord bytes (λ n. writeRefusal n (length (n .segments)) (length room)) r → (saysWritten a ≡ refusal-of r) × (x ≡ room)
+  pub only-then : {a : WriteAnswer} {x : List ℕ} → Rewrites bytes room a x → (r : Refusal) → saysWritten a ≡ refusal-of r
+      → OnRecord bytes (λ n. writeRefusal n (length (n .segments)) (length room)) r
+
+-- THE MARGIN of a post of a record: reading refuses it, or margin refuses the net that was read
+pub record RecordMarginRefuses (bytes : List ℕ) (t : Tree) (post : ℕ) : Type 0 where
+  pub refuses : {a : MarginAnswer} → a ≡ marginRead bytes t post → (r : Refusal) → OnRecord bytes (λ n. marginRefusal every n (length (n .segments)) post) r
+      → marginSaysOf a ≡ B.MarginAnswer.refused r
+  pub only-then : {a : MarginAnswer} → a ≡ marginRead bytes t post → (r : Refusal) → marginSaysOf a ≡ B.MarginAnswer.refused r
+      → OnRecord bytes (λ n. marginRefusal every n (length (n .segments)) post) r
+
+-- CHECKING a record: reading refuses it
+pub record CheckRefuses (bytes : List ℕ) : Type 0 where
+  pub refuses : {a : Checked} → a ≡ checkRead (recordRead bytes) → (r : Refusal) → recordRead bytes ≡ unread r → checkSays a ≡ some r
+  pub only-then : {a : Checked} → a ≡ checkRead (recordRead bytes) → (r : Refusal) → checkSays a ≡ some r → recordRead bytes ≡ unread r
 
 -- A DRAWN RUN; what an answer says is a length or a refusal with number and place
 pub record DrawnRefuses (run : Run) : Type 0 where
@@ -96,4 +122,7 @@ pub record Demand1 : Type 0 where
   pub read : (bytes : List ℕ) (l : List Segment) → ReadRefuses bytes l
   pub write : (h : Head) (segments : List Segment) (room : List ℕ) → WriteRefuses (netOn h segments) (length segments) room
   pub plan : (bytes l s w : List ℕ) → PlanRefuses bytes l s w
+  pub rewrite : (bytes room : List ℕ) → RewriteRefuses bytes room
+  pub margin-read : (bytes : List ℕ) (t : Tree) (post : ℕ) → RecordMarginRefuses bytes t post
+  pub check-read : (bytes : List ℕ) → CheckRefuses bytes
   pub drawn : (run : Run) → DrawnRefuses run

@@ -35,7 +35,7 @@ use Rattle.writing.specs.Answers.{result, saysWritten, Writes}
 use Rattle.records.specs.declared.reading.ReadAnswer.{ReadAnswer}
 use Rattle.writing.specs.declared.WriteAnswer.{WriteAnswer}
 use Rattle.droverboot.specs.Reading.{Reads}
-use Rattle.plans.specs.Asked.{recordRead, Plans}
+use Rattle.plans.specs.Asked.{recordRead, Plans, marginRead}
 use Rattle.plans.specs.Says.{Plan, saysPlanned}
 use Rattle.plans.specs.declared.PlanAnswer.{PlanAnswer}
 use Rattle.drawn.specs.Drawn.{drawnOf}
@@ -133,5 +133,7 @@ pub record Demand2 : Type 0 where
       → PlannedAsStated bytes l s w l′ s′ w′ q
   pub margin : (h : Head) (segments : List Segment) (t : Tree) (post : ℕ) {a : MarginAnswer} {z : ℤ}
       → a ≡ marginAnswerOf (marginOf every (netOn h segments) (length segments) t post) → marginSaysOf a ≡ B.MarginAnswer.margin z → MarginAsStated (netOn h segments) t post z
+  pub margin-read : (bytes : List ℕ) (t : Tree) (post : ℕ) {a : MarginAnswer} {z : ℤ} → a ≡ marginRead bytes t post → marginSaysOf a ≡ B.MarginAnswer.margin z
+      → {n : Net} {next : ℕ} → recordRead bytes ≡ got n next → MarginAsStated n t post z
   pub records : RecordsBothWays
   pub drawn : DrawnAsStated

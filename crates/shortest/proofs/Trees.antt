@@ -11,7 +11,7 @@ use Rattle.net.specs.Words.{noSegment}
 use Rattle.net.specs.Net.{mostSegments, every, segmentsOf, lengthAt}
 use Rattle.net.specs.Trees.{noneYet, at, one, least, hung, fewest, hungFrom, leastLengths, hangingWeight, shortest}
 use Rattle.net.specs.declared.Segment.{Segment}
-use Rattle.net.proofs.Least.{Inside, length-least, least-most}
+use Rattle.net.proofs.Least.{length-least, least-most}
 use Rattle.net.proofs.Hung.{length-hung}
 use Rattle.hanging.specs.Lists.{flag, note, Ends, Sides, Low}
 use Rattle.net.proofs.Segments.{length-segments, segments-are}
@@ -24,17 +24,9 @@ pub front-of : (n : ℕ) (g r l : List ℕ) → l ≡ g ++ r → length g ≡ n 
 front-of n g r l e k = ap (λ (x : List ℕ). take n x) e ∙ take-at g r n k
 
 module _ (segs : List Segment) (ok : ℕ → Bool) (n s : ℕ) where
-  pub length-lengths : Inside segs ok n → s < n → length (leastLengths segs ok n s) ≡ n
-  unfolding leastLengths
-  length-lengths inside h = length-least segs ok (lengthAt segs) n inside s h
-
   pub length-shortest : length segs ≤ noSegment → length (shortest segs ok n s) ≡ n
   unfolding shortest hangingWeight
   length-shortest few = length-hung segs ok (lengthAt segs) n few (least segs ok (lengthAt segs) n s)
-
-  pub length-hung-from : length segs ≤ noSegment → length (hungFrom segs n s ok) ≡ n
-  unfolding hungFrom
-  length-hung-from few = length-hung segs ok one n few (fewest segs n ok s)
 
 -- NOTES THAT ARE LEAST LENGTHS
 module _ {posts : ℕ} {a b weights : List ℕ} {present : List Bool} (z : Sides posts a b weights present) (s : ℕ) (in-s : s < posts) (l r : List ℕ)
