@@ -2,9 +2,9 @@
 -- changes nothing in lent memory. An otherwise sound net is refused as not joined exactly when some post has no route to the source."
 -- One record for each entry, for whatever is lent to it. `by-the-rules` and `no-other`: document 01's rules, one for each number, give one answer for every
 -- input. `refuses`: where they refuse, every outcome that the entry's contract allows is that refusal, and what was lent is as it was. `only-then`: an outcome is
--- a refusal only where they refuse; of a record both are said of reading and then of the net that was read (`OnRecord`). The rules stand in net/specs/Rules, numbers/specs/Rules, writing/specs/Rules, records/specs/Rules and drawn/specs/Rules. What
--- an answer says, its number and values, is `saysOf`, `marginSaysOf`, `saysBy`, `saysWritten`, `saysPlanned` and, of a
--- check, `checkSays`.
+-- a refusal only where they refuse; of a record both are said of reading and then of the net that was read (`OnRecord`). The rules stand in net/specs/Rules,
+-- numbers/specs/Rules, writing/specs/Rules, records/specs/Rules and drawn/specs/Rules. What an answer says, its number and values, is `saysOf`, `marginSaysOf`,
+-- `saysBy`, `saysWritten`, `saysPlanned` and, of a check, `checkSays`.
 use mathlib.Core.Path.{_≡_}
 use mathlib.Core.Logic.{_↔_}
 use mathlib.Core.List.{List}
