@@ -23,8 +23,9 @@ pub mod Length
 pub mod Twice
 pub mod Shortest
 pub mod Between
-pub mod Fuel
 pub mod Margin
 pub mod Sound
+pub mod OneWalk
+pub mod WalkRuled
 pub mod Demand
 pub mod Worked

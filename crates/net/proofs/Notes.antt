@@ -147,7 +147,7 @@ module _ (g : Given) (ok : ℕ → Bool) (s : ℕ) (owed : Owed g ok s) where
       (λ z. z)
 
   -- ENTERING
-  fine-count : (v : ℕ) (n : Notes) → Fine g ok s n → Fine g ok s (count g v n)
+  pub fine-count : (v : ℕ) (n : Notes) → Fine g ok s n → Fine g ok s (count g v n)
   unfolding count
   fine-count v n f =
       record {
@@ -185,7 +185,7 @@ module _ (g : Given) (ok : ℕ → Bool) (s : ℕ) (owed : Owed g ok s) where
   unfolding atStart
   start-note v h = tab-at (λ v. cond (eqb v s) 0 noneYet) (g .posts) v noneYet h
 
-  start-other : (v : ℕ) → v < g .posts → (v ≡ s → ⊥) → at ((atStart (g .posts) s) .d) v ≡ noneYet
+  pub start-other : (v : ℕ) → v < g .posts → (v ≡ s → ⊥) → at ((atStart (g .posts) s) .d) v ≡ noneYet
   start-other v h ne = start-note v h ∙ rw (ne-eqb v s ne)
 
   start-source : at ((atStart (g .posts) s) .d) s ≡ 0

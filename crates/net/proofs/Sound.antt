@@ -1,7 +1,7 @@
 -- A net that nothing from 1 to 7 refuses is all that the laws of the trees and of the walk ask for, at any ratio for each post: each post with a route is
 -- reached by the third tree within its limit (`between-within`), Req 12's two inequalities hold (`laid-length`, `laid-sum`), and no segments that join all
 -- posts are lighter than the lightest tree (`lightest-limit`). Where all posts are joined, each of the three lists is a tree that reaches all of them.
-use mathlib.Core.Path.{_≡_, refl, sym, ap, _∙_}
+use mathlib.Core.Path.{_≡_, refl, ap, _∙_}
 use mathlib.Core.Bool.{Bool, true}
 use mathlib.Core.List.{List}
 use Prim.Native.Nat.{ℕ, zero, suc, _+_, _*_, _≤_, _<_}
@@ -32,7 +32,6 @@ use Rattle.net.proofs.Belongs.{joins-spans}
 use Rattle.net.proofs.Cost.{AllOf}
 use Rattle.net.proofs.Length.{between-length}
 use Rattle.net.proofs.Climbs.{climb-path}
-use Rattle.net.proofs.Fuel.{walk-enough}
 use Rattle.net.proofs.Between.{length-between, between-source, laid-twice, between-weight, Within, between-climb}
 
 -- m is the number of segments that is claimed, and the list has no more
@@ -156,17 +155,10 @@ module _ (ok : ℕ → Bool) (m : ℕ) (n : Net) (fits : length (n .segments) �
         depth-parent segs ok posts inside n-small few s below (other segs i v) ((child-in v i h e) .0) (child-hangs v i h e)
         ∙ ap (λ (x : ℕ). suc (depth segs ok posts s x)) (child-parent g v i h e)
 
-    child-shallow : (v i : ℕ) → i < length segs → child g v i ≡ true → depth segs ok posts s (other segs i v) < posts
+    pub child-shallow : (v i : ℕ) → i < length segs → child g v i ≡ true → depth segs ok posts s (other segs i v) < posts
     child-shallow v i h e =
         let c = (child-in v i h e) .0 in
         depth-few segs ok posts inside n-small few s below (other segs i v) (light-route segs ok posts inside n-small few s below (other segs i v) c (child-hangs v i h e))
-
-    -- as many levels as there are posts are enough: nothing of the walk is cut off
-    pub walk-fuel : (k : ℕ) → posts ≤ k → walk (givenWith ok n p q) k s (atStart posts s) ≡ walkWith ok n p q
-    unfolding givenWith lightestOf shortestOf leastLengthsOf
-    walk-fuel k h =
-        let e = depth-source segs ok posts inside n-small few s below in
-        walk-enough g (depth segs ok posts s) child-deeper child-shallow k posts s (atStart posts s) (omega (arith, e, below)) (omega arith) (omega arith) ∙ sym walk-is
 
     -- every post with a route hangs below the source, as deep as its path has segments
     downs : (k v : ℕ) → v < posts → Chain segs ok s v → depth segs ok posts s v < k → Down g s (depth segs ok posts s v) v

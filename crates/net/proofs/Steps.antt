@@ -14,7 +14,7 @@ use Rattle.net.specs.Net.{lengthAt}
 use Rattle.net.specs.Trees.{noneYet, at, entry, parent}
 use Rattle.net.specs.Walk.{Notes, Given, hangBy, try, lay, count, enter}
 
-cases : {S : Type 0} (Q : S → Type 0) (b : Bool) (f : S → S) (x : S) → (b ≡ true → Q (f x)) → (b ≡ false → Q x) → Q (only b f x)
+pub cases : {S : Type 0} (Q : S → Type 0) (b : Bool) (f : S → S) (x : S) → (b ≡ true → Q (f x)) → (b ≡ false → Q x) → Q (only b f x)
 cases Q true f x y n = y refl
 cases Q false f x y n = n refl
 

@@ -5,5 +5,6 @@ pub mod Refusals
 pub mod Rules
 pub mod Trees
 pub mod Walk
+pub mod WalkRules
 pub mod Building
 pub mod Worked

@@ -1,4 +1,5 @@
 -- BETWEEN: the notes, try, lay, enter and walk, sentence by sentence as document 01 has them, over any tree list and any ratios.
+-- `WalkRules` says the same without tests and bounds, and proofs/WalkRuled joins the two.
 use mathlib.Core.Bool.{Bool, _&&_, cond}
 use mathlib.Core.List.{List, [], _∷_}
 use Prim.Native.Nat.{ℕ, zero, suc, _+_, _*_}

@@ -12,13 +12,14 @@ use Rattle.net.specs.Net.{Net, every}
 use Rattle.net.specs.Rules.{NetSound, AllJoined}
 use Rattle.net.specs.Trees.{IsTree, pathIn, marginBy}
 use Rattle.net.specs.Building as B
-use Rattle.net.specs.Building.{built, lightestOf, shortestOf, betweenOf, walkOf, treeOf, measured, buildAnswer, marginRefusal, marginIn, marginAnswer, marginOf}
+use Rattle.net.specs.Building.{built, lightestOf, shortestOf, betweenOf, laidOf, givenWith, walkOf, treeOf, measured, buildAnswer, marginRefusal, marginIn, marginAnswer, marginOf}
 use Rattle.net.specs.declared.Measured.{Measured}
 use Rattle.net.specs.declared.Segment.{Segment}
 use Rattle.net.specs.declared.Refusal.{Refusal}
 use Rattle.net.specs.declared.Tree.{Tree}
 use Rattle.net.specs.declared.Tree.the-variants.{Lightest, Shortest, Between}
-use Rattle.net.proofs.Sound.{D-is-least, shortest-says, lightest-exactly, lightest-tree, shortest-tree, between-tree, walk-fuel}
+use Rattle.net.proofs.Sound.{D-is-least, shortest-says, lightest-exactly, lightest-tree, shortest-tree, between-tree}
+use Rattle.net.proofs.WalkRuled.{net-walk, only-net-walk}
 use Rattle.lent.specs.Lists.{netOn}
 use Rattle.looms.specs.Answers.{saysOf, Leaves}
 use Rattle.margins.specs.Answers.{marginAnswerOf, marginSaysOf}
@@ -48,7 +49,7 @@ use Rattle.drawn.specs.Says.{saysOf as drawnSays}
 use Rattle.drawn.specs.declared.Answer.the-variants.{Length}
 use Rattle.drawn.proofs.Rules.{same-says}
 use Rattle.drawn.proofs.Lengths.{straight-length, length-straight, corner-length, length-corner}
-use Rattle.promises.specs.Demand2.{TreesAsStated, Holds, BuiltAsStated, PlannedAsStated, MarginAsStated, RecordsBothWays, DrawnAsStated, Demand2}
+use Rattle.promises.specs.Demand2.{ByTheRules, TreesAsStated, Holds, BuiltAsStated, PlannedAsStated, MarginAsStated, RecordsBothWays, DrawnAsStated, Demand2}
 use Rattle.promises.proofs.Taken.{taken-sound, taken-joined, answers, after, planned-net}
 
 -- THE TREES
@@ -57,8 +58,18 @@ module _ (n : Net) (m : ℕ) (fits : length (n .segments) ≤ m) (sound : NetSou
   unfolding betweenOf walkOf
   between-is = between-tree every m n fits sound joined (λ _. n .head .p) (λ _. n .head .q)
 
+  by-the-rules : ByTheRules n (betweenOf every n) (laidOf every n)
+  unfolding betweenOf laidOf walkOf givenWith
+  by-the-rules =
+      record {
+        notes = walkOf every n;
+        gives = net-walk every m n fits sound (λ _. n .head .p) (λ _. n .head .q);
+        no-others = only-net-walk every m n fits sound (λ _. n .head .p) (λ _. n .head .q);
+        entries-are = refl;
+        laid-are = refl;
+      }
+
   pub trees-as-stated : TreesAsStated n
-  unfolding walkOf
   trees-as-stated =
       record {
         lightest-belong = lightest-exactly every m n fits sound;
@@ -66,7 +77,7 @@ module _ (n : Net) (m : ℕ) (fits : length (n .segments) ≤ m) (sound : NetSou
         D-least = λ v h. D-is-least every m n fits sound v (joined v h);
         shortest-hangs = λ v h ne. shortest-says every m n fits sound v h ne (joined v h);
         shortest-tree = shortest-tree every m n fits sound joined;
-        walked-whole = walk-fuel every m n fits sound (λ _. n .head .p) (λ _. n .head .q);
+        walk-by-the-rules = by-the-rules;
         between-tree = between-is;
       }
 

@@ -1,6 +1,6 @@
 -- Demand 2: "Exactly the published rules. Lightest tree, shortest tree and walk as document 01 states them, ties included. Records are read and written both
 -- ways without loss, one record for one net. A drawn length becomes the whole number of sixteenths that it is."
--- The definitions of net/specs compute the trees; `TreesAsStated` is what they come to in document 01's own words, over chains and routes. The rest is said of the
+-- The definitions of net/specs compute the trees; `TreesAsStated` is what they come to in document 01's own words, over chains, routes and the walk's rules. The rest is said of the
 -- outcomes that the entries' contracts allow: what building leaves in the lent lists, a margin that is given, what is read and written, a drawn run's length. What an answer
 -- says, its number and values, is `saysOf`, `saysPlanned`, `marginSaysOf`, `saysBy`, `saysWritten` and, of a run, `drawnSays`.
 use mathlib.Core.Path.{_≡_}
@@ -20,8 +20,9 @@ use Rattle.net.specs.declared.Tree.{Tree}
 use Rattle.net.specs.declared.Tree.the-variants.{Shortest, Between}
 use Rattle.net.specs.Net.{Net, every, lengthAt}
 use Rattle.net.specs.Trees.{at, IsLeast, HangsBy, ExactlyBelonging, IsTree, entry, pathIn, whole, radius}
-use Rattle.net.specs.Walk.{atStart, walk}
-use Rattle.net.specs.Building.{built, lightestOf, leastLengthsOf, shortestOf, betweenOf, laidOf, givenWith, walkOf, treeOf, marginOf}
+use Rattle.net.specs.Walk.{Notes, Given}
+use Rattle.net.specs.WalkRules.{WalkGives}
+use Rattle.net.specs.Building.{built, lightestOf, leastLengthsOf, shortestOf, betweenOf, laidOf, treeOf, marginOf}
 use Rattle.net.specs.Building as B
 use Rattle.lent.specs.Lists.{netOn}
 use Rattle.looms.specs.Answers.{Leaves, saysOf}
@@ -45,6 +46,27 @@ use Rattle.drawn.specs.declared.Run.the-variants.{Straight, Corner}
 use Rattle.drawn.specs.declared.Answer.{Answer as Drawn}
 
 -- THE TREES of a net that building takes
+-- what its walk is given: "Walk the lightest tree", the shortest tree and D for laying, and one ratio for all posts
+abbrev pub given : Net → Given
+given n =
+    record {
+      segments = n .segments;
+      posts = n .head .posts;
+      walked = lightestOf every n;
+      shortest = shortestOf every n;
+      D = leastLengthsOf every n;
+      p = λ _. n .head .p;
+      q = λ _. n .head .q;
+    }
+
+-- the list t and the laid posts are those of the notes that the rules of the walk give from the source, and the rules give no other notes
+pub record ByTheRules (n : Net) (t laid : List ℕ) : Type 0 where
+  pub notes : Notes
+  pub gives : WalkGives (given n) (n .head .source) notes
+  pub no-others : (n′ : Notes) → WalkGives (given n) (n .head .source) n′ → n′ ≡ notes
+  pub entries-are : t ≡ notes .entries
+  pub laid-are : laid ≡ notes .laid
+
 pub record TreesAsStated (n : Net) : Type 0 where
   -- LIGHTEST: its entries are exactly the segments whose ends no chain of segments before them joins, hung from the source
   pub lightest-belong : ExactlyBelonging (n .segments) every (n .head .posts) (n .head .source) (lightestOf every n)
@@ -54,9 +76,8 @@ pub record TreesAsStated (n : Net) : Type 0 where
   pub shortest-hangs : (v : ℕ) → v < n .head .posts → (v ≡ n .head .source → ⊥)
       → HangsBy (n .segments) every (lengthAt (n .segments)) (leastLengthsOf every n) v (entry (shortestOf every n) v)
   pub shortest-tree : IsTree (n .segments) every (n .head .posts) (n .head .source) (shortestOf every n) (pathIn (n .segments) (n .head .posts) (shortestOf every n))
-  -- BETWEEN: the walk goes to the end of the lightest tree; no bound cuts it off
-  pub walked-whole : (k : ℕ) → n .head .posts ≤ k
-      → walk (givenWith every n (λ _. n .head .p) (λ _. n .head .q)) k (n .head .source) (atStart (n .head .posts) (n .head .source)) ≡ walkOf every n
+  -- BETWEEN: the third list and the laid posts are what document 01's rules for the walk give, and the rules give nothing else
+  pub walk-by-the-rules : ByTheRules n (betweenOf every n) (laidOf every n)
   pub between-tree : IsTree (n .segments) every (n .head .posts) (n .head .source) (betweenOf every n) (pathIn (n .segments) (n .head .posts) (betweenOf every n))
 
 -- WHAT BUILDING LEAVES
