@@ -2,10 +2,11 @@
 -- and the crate `promises` joins them to the one table of all statements marked (P).
 use mathlib.Core.Path.{_≡_}
 use mathlib.Core.List.{List, [], _∷_}
+use mathlib.Core.Option.{none}
 use Prim.Native.Nat.{ℕ}
 use lib.IntN.{pos, negsuc}
 use Rattle.net.specs.Net.{Net, every}
-use Rattle.net.specs.Refusals.{Lent, refusal}
+use Rattle.net.specs.Refusals.{Lent, refusal, first, headLines}
 use Rattle.net.specs.Trees.{pathIn}
 use Rattle.net.specs.Building.{BuildAnswer, built, refused, MarginAnswer, margin, buildOf, afterBuild, marginOf, treeOf, walkOf}
 use Rattle.net.specs.Building as B
@@ -37,6 +38,30 @@ netTwo = net 5 0 0 1 (seg 0 3 4 ∷ seg 3 4 4 ∷ seg 4 2 4 ∷ seg 0 1 5 ∷ se
 -- a line of posts from post 5, with a path of five segments
 abbrev pub netLine : Net
 netLine = net 6 5 1 3 (seg 0 1 1 ∷ seg 2 1 2 ∷ seg 2 3 3 ∷ seg 4 3 4 ∷ seg 4 5 5 ∷ [])
+
+-- six nets, each of which tells one wrong walk apart: here a post entered after its children
+abbrev pub netLeaving : Net
+netLeaving = net 4 0 1 3 (seg 2 1 2 ∷ seg 0 3 3 ∷ seg 3 1 2 ∷ seg 2 0 2 ∷ seg 1 0 2 ∷ [])
+
+-- a try that passes at equality
+abbrev pub netTie : Net
+netTie = net 4 0 1 3 (seg 2 3 2 ∷ seg 0 1 3 ∷ seg 0 2 4 ∷ seg 1 3 3 ∷ [])
+
+-- children in rising post number
+abbrev pub netOrder : Net
+netOrder = net 6 0 1 2 (seg 5 0 6 ∷ seg 2 1 5 ∷ seg 5 3 2 ∷ seg 3 4 2 ∷ seg 0 2 3 ∷ seg 1 3 4 ∷ seg 3 5 5 ∷ seg 5 4 3 ∷ [])
+
+-- children by length, then number
+abbrev pub netLength : Net
+netLength = net 5 0 1 5 (seg 4 0 4 ∷ seg 2 3 4 ∷ seg 2 4 3 ∷ seg 0 2 3 ∷ seg 1 3 3 ∷ seg 1 4 4 ∷ [])
+
+-- the outer test by the path
+abbrev pub netNote : Net
+netNote = net 6 0 1 2 (seg 0 1 4 ∷ seg 1 2 4 ∷ seg 0 2 6 ∷ seg 2 4 5 ∷ seg 4 3 5 ∷ seg 2 3 5 ∷ seg 4 5 5 ∷ seg 0 5 11 ∷ [])
+
+-- no inner test, so that every path is laid from the source
+abbrev pub netStop : Net
+netStop = net 8 0 1 2 (seg 0 1 5 ∷ seg 1 2 4 ∷ seg 0 2 6 ∷ seg 2 4 8 ∷ seg 0 3 7 ∷ seg 3 4 7 ∷ seg 4 5 8 ∷ seg 5 6 8 ∷ seg 6 7 8 ∷ seg 4 7 9 ∷ [])
 
 -- posts and no segment
 abbrev pub bare : ℕ → Net
@@ -95,6 +120,24 @@ pub record NetsWorked : Type 0 where
   -- a path is followed to its end
   pub far-up : answer netLine 5 6 ≡ built (measures 15 15) (measures 15 15) (measures 15 15) 0
   pub far-margin : marginOf every netLine 5 Lightest 0 ≡ margin (pos 15)
+  -- THE WALK. Each post is entered before its children
+  pub leaving-answer : answer netLeaving 5 4 ≡ built (measures 6 6) (measures 7 3) (measures 6 4) 1
+  pub leaving-between : after netLeaving 5 4 Between (7 ∷ 7 ∷ 7 ∷ 7 ∷ []) ≡ 65535 ∷ 4 ∷ 3 ∷ 2 ∷ []
+  -- a try changes nothing at equality
+  pub tie-answer : answer netTie 4 4 ≡ built (measures 8 8) (measures 9 6) (measures 10 6) 1
+  pub tie-between : after netTie 4 4 Between (7 ∷ 7 ∷ 7 ∷ 7 ∷ []) ≡ 65535 ∷ 1 ∷ 2 ∷ 3 ∷ []
+  -- the children go in rising number of their segments, not of posts
+  pub order-answer : answer netOrder 8 6 ≡ built (measures 16 14) (measures 19 9) (measures 18 10) 1
+  pub order-between : after netOrder 8 6 Between (7 ∷ 7 ∷ 7 ∷ 7 ∷ 7 ∷ 7 ∷ []) ≡ 65535 ∷ 1 ∷ 4 ∷ 2 ∷ 3 ∷ 0 ∷ []
+  -- the children go in rising number of their segments, not by length
+  pub length-answer : answer netLength 6 5 ≡ built (measures 13 10) (measures 15 8) (measures 15 8) 1
+  pub length-between : after netLength 6 5 Between (7 ∷ 7 ∷ 7 ∷ 7 ∷ 7 ∷ []) ≡ 65535 ∷ 5 ∷ 3 ∷ 1 ∷ 0 ∷ []
+  -- the outer test is by the note, not by the path
+  pub note-answer : answer netNote 8 6 ≡ built (measures 23 18) (measures 31 11) (measures 31 11) 2
+  pub note-between : after netNote 8 6 Between (7 ∷ 7 ∷ 7 ∷ 7 ∷ 7 ∷ 7 ∷ []) ≡ 65535 ∷ 0 ∷ 2 ∷ 5 ∷ 3 ∷ 7 ∷ []
+  -- the inner test ends a laid path at the first post that is within D
+  pub stop-answer : answer netStop 10 8 ≡ built (measures 47 38) (measures 51 30) (measures 48 30) 1
+  pub stop-between : after netStop 10 8 Between (7 ∷ 7 ∷ 7 ∷ 7 ∷ 7 ∷ 7 ∷ 7 ∷ 7 ∷ []) ≡ 65535 ∷ 0 ∷ 1 ∷ 4 ∷ 5 ∷ 6 ∷ 7 ∷ 9 ∷ []
   -- REFUSALS, each with its place, a later fault beside it
   pub refuses-1 : answer (net 0 0 1 0 []) 0 0 ≡ refusedWith 1 0
   pub refuses-257 : answer (bare 257) 0 257 ≡ refusedWith 1 0
@@ -115,3 +158,5 @@ pub record NetsWorked : Type 0 where
   pub margin-refuses-9 : marginOf every (bare 2) 0 Lightest 2 ≡ marginRefused 9 1
   pub margin-refuses-19 : marginOf every (bare 1) 0 Lightest 1 ≡ marginRefused 19 0
   pub margin-of-source : marginOf every (netA 1 1) 5 Between 0 ≡ margin (pos 0)
+  -- the largest head that 1 to 4 take
+  pub takes-most : first (headLines (record { posts = 256; source = 255; p = 10000; q = 10000 }) 2048) ≡ none
