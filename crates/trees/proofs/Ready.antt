@@ -15,6 +15,7 @@ use Rattle.net.proofs.Sound.{inside}
 use Rattle.hanging.specs.Lists.{flag, Ends, Short}
 use Rattle.net.proofs.Segments.{length-segments, segments-are, getD-any}
 use Rattle.lightest.specs.Marks.{there, Fit}
+use Rattle.lightest.specs.Order.{Sortable}
 use Rattle.lightest.proofs.Fitting.{inside-fit}
 use Rattle.lightest.proofs.Presence.{belonging-every}
 use Rattle.shortest.proofs.Trees.{length-first, first-at}
@@ -64,6 +65,9 @@ module _ {head : Head} {a b lengths : List ℕ} (r : Ready head a b lengths) whe
   ready-short =
       let s = segments-are a b lengths (r .b-level) (r .lengths-level) in
       record { most = λ i h. rw (← s .length-is i) ((r .sound .segments-sound i (omega (arith, count-is, r .lengths-level)) refl) .not-too-long) }
+
+  pub ready-sortable : Sortable lengths
+  ready-sortable = record { few = omega (arith, ready-few, r .lengths-level); short = ready-short .most }
 
   -- posts and source: the head's as indices
   module _ {posts : ℕ} (posts-is : posts ≡ head .posts) where

@@ -1,5 +1,5 @@
 -- `lightest_by` meets its contract: the belonging marks, hung from the source. Assumes nothing.
-use Rattle.trees.proofs.Ready.{ready-few, ready-posts, ready-source, fit-at, ends-at, lightest-hung}
+use Rattle.trees.proofs.Ready.{ready-posts, ready-sortable, ready-source, fit-at, ends-at, lightest-hung}
 use native.Mathlib.Omega.{arith}
 use borrow.Author.Needs.{needs}
 use Rattle.trees.proofs.lightest_by.Statement.{statement}
@@ -12,7 +12,7 @@ index-of-requires-2 : tie.Need-index-of-requires-2
 index-of-requires-2 c κs = search needs
 
 belonging-requires : tie.Need-belonging-requires
-belonging-requires c κs = let p = c .before .before .before .before .before .before .before .before .before .pre in (fit-at (p .0) (c .before .before .index-of .ensures) (p .1), (omega (arith, ready-posts (p .0)), omega (arith, ready-few (p .0), p .0 .lengths-level), omega (arith, p .0 .lengths-level)))
+belonging-requires c κs = let p = c .before .before .before .before .before .before .before .before .before .pre in (fit-at (p .0) (c .before .before .index-of .ensures) (p .1), (omega (arith, ready-posts (p .0)), ready-sortable (p .0), omega (arith, p .0 .lengths-level)))
 
 hang-from-requires : tie.Need-hang-from-requires
 hang-from-requires c κs = let p = c .before .before .before .before .before .before .before .before .before .before .before .before .before .before .pre in (ends-at (p .0) (c .before .before .before .before .before .before .before .index-of .ensures), (omega (arith, ready-source (p .0)), omega (arith, ready-posts (p .0)), omega arith, omega arith))
