@@ -4,3 +4,4 @@ pub mod Filling
 pub mod Sides
 pub mod Hanging
 pub mod Measures
+pub mod Paths

@@ -1,3 +1,4 @@
--- What the contracts of this crate cite beside the definitions of `net`; `shortest` cites `Lists` too.
+-- What the contracts of this crate cite beside the definitions of `net`; `shortest` cites `Lists` too, and `looms` `Paths`.
 pub mod Lists
 pub mod Hooks
+pub mod Paths

@@ -1,4 +1,4 @@
-// Hanging posts by least lengths that are given, and the measures of a tree list: its whole length, the path of a post, the radius.
+// Hanging posts by least lengths that are given, and the measures of a tree list: its whole length, the path of a post or of each, the radius.
 // Each is proved equal to the definition of `net`. Segments come as slices side by side: two ends, what a segment counts for (its length, or 1), and
 // whether it is present. Relies on `net` alone. Below `shortest`, which finds the least lengths and reads and fills its lists by the functions here.
 ghost use mathlib.Core.Path.{_≡_};
@@ -7,11 +7,13 @@ ghost use mathlib.Core.List.{List, _++_};
 ghost use Prim.Native.Nat.{ℕ, _<_, _≤_};
 ghost use lib.ListN.{length, getD, take, drop};
 ghost use lib.Dec.{eqb};
-ghost use Rattle.net.specs.Words.{noSegment};
+ghost use Rattle.net.specs.Words.{noSegment, tab, largest};
 ghost use Rattle.net.specs.Net.{mostPosts, mostSegments, segmentsOf};
 ghost use Rattle.net.specs.Trees.{noneYet, hung, whole, pathIn, radius};
+ghost use Rattle.net.specs.declared.Segment.{Segment};
 ghost use Rattle.hanging.specs.Lists.{flag, note, Filled, Short, Sides, Low};
 ghost use Rattle.hanging.specs.Hooks.{Hooked, Hooks};
+ghost use Rattle.hanging.specs.Paths.{firstPath, Known, Learnt, Listed};
 
 // The entry of a post that hangs by no segment.
 pub const NO_SEGMENT: u16 = 65535;
@@ -47,6 +49,22 @@ fn entry_of(posts: usize, tree: &[u16], v: usize) -> usize
     } else {
         NO_SEGMENT as usize
     }
+}
+
+// The same where v is one of them.
+fn entry_at(posts: usize, tree: &[u16], v: usize) -> usize
+    requires { ⌜ (v < posts) × (posts ≤ length (now tree)) ⌝ }
+    ensures { λ r. ⌜ r ≡ getD (take posts (now (tree .entry))) v noSegment ⌝ }
+{
+    tree[v] as usize
+}
+
+// An end of segment i.
+fn end_at(ends: &[u16], i: usize) -> usize
+    requires { ⌜ i < length (now ends) ⌝ }
+    ensures { λ r. ⌜ r ≡ getD (now (ends .entry)) i 0 ⌝ }
+{
+    ends[i] as usize
 }
 
 // The end of a segment that lies across from v.
@@ -167,20 +185,121 @@ pub fn path_of(
     total
 }
 
-// The longest path of the tree.
-pub fn radius_of(posts: usize, a: &[u16], b: &[u16], lengths: &[u32], tree: &[u16]) -> u32
-    requires { ⌜ (posts ≤ mostPosts) × (posts ≤ length (now tree)) × (length (now b) ≡ length (now a)) × (length (now lengths) ≡ length (now a)) ⌝ }
-    requires { ⌜ Short (now lengths) ⌝ }
-    ensures { λ r. ⌜ r ≡ radius (segmentsOf (now (a .entry)) (now (b .entry)) (now (lengths .entry))) posts (take posts (now (tree .entry))) ⌝ }
+// PATHS, EACH ONCE. What stands for a post whose path isn't known yet.
+const UNKNOWN: u32 = 4294967295;
+
+// What stands at first for a post of the entry e.
+fn first_path(e: u16) -> u32
+    ensures { λ r. ⌜ r ≡ firstPath e ⌝ }
 {
-    let mut most = 0;
+    if e == NO_SEGMENT { 0 } else { UNKNOWN }
+}
+
+// No path is known but those of the posts that hang by none.
+fn begin_paths(posts: usize, tree: &[u16], paths: &mut [u32])
+    requires { ⌜ (posts ≤ length (now tree)) × (posts ≤ length (now paths)) ⌝ }
+    ensures { λ _. ⌜ ((segs : List Segment) → Known segs posts (take posts (now (tree .entry))) (now (paths .exit))) ⌝ }
+    ensures { λ _. ⌜ ((v : ℕ) → posts ≤ v → note (now (paths .exit)) v ≡ note (now (paths .entry)) v) ⌝ }
+{
     let mut v = 0;
     while v < posts {
-        let path = path_of(posts, a, b, lengths, tree, v);
-        if path > most {
-            most = path;
-        }
+        paths[v] = first_path(tree[v]);
         v += 1;
     }
+}
+
+// The path of `post`: up to the nearest post whose path is known, and from there as it says.
+fn find_path(
+    posts: usize,
+    a: &[u16],
+    b: &[u16],
+    lengths: &[u32],
+    tree: &[u16],
+    paths: &[u32],
+    post: usize,
+) -> u32
+    requires { ⌜ Listed posts (now a) (now b) (now lengths) (now tree) × (posts ≤ length (now paths)) × (post < posts) ⌝ }
+    requires { ⌜ Known (segmentsOf (now a) (now b) (now lengths)) posts (take posts (now tree)) (now paths) ⌝ }
+    ensures { λ r. ⌜ r ≡ pathIn (segmentsOf (now (a .entry)) (now (b .entry)) (now (lengths .entry))) posts (take posts (now (tree .entry))) post ⌝ }
+{
+    let mut total = 0;
+    let mut v = post;
+    while paths[v] == UNKNOWN {
+        let e = entry_at(posts, tree, v);
+        total += lengths[e];
+        v = across(end_at(a, e), end_at(b, e), v);
+    }
+    total + paths[v]
+}
+
+// The path of `post` is `path`: the same way again, and what is left of it is the path of each post on it.
+fn note_path(
+    posts: usize,
+    a: &[u16],
+    b: &[u16],
+    lengths: &[u32],
+    tree: &[u16],
+    post: usize,
+    path: u32,
+    paths: &mut [u32],
+)
+    requires { ⌜ Listed posts (now a) (now b) (now lengths) (now tree) × (posts ≤ length (now paths)) × (post < posts) ⌝ }
+    requires { ⌜ Known (segmentsOf (now a) (now b) (now lengths)) posts (take posts (now tree)) (now paths) ⌝ }
+    requires { ⌜ path ≡ pathIn (segmentsOf (now a) (now b) (now lengths)) posts (take posts (now tree)) post ⌝ }
+    ensures { λ _. ⌜ Learnt (segmentsOf (now (a .entry)) (now (b .entry)) (now (lengths .entry))) posts (take posts (now (tree .entry))) post (now (paths .entry)) (now (paths .exit)) ⌝ }
+{
+    let mut left = path;
+    let mut v = post;
+    while paths[v] == UNKNOWN {
+        paths[v] = left;
+        let e = entry_at(posts, tree, v);
+        left -= lengths[e];
+        v = across(end_at(a, e), end_at(b, e), v);
+    }
+}
+
+// The path of each post, at the front of a list; 0 for a post that hangs by none. Each segment of the tree is passed twice.
+pub fn paths_of(
+    posts: usize,
+    a: &[u16],
+    b: &[u16],
+    lengths: &[u32],
+    tree: &[u16],
+    paths: &mut [u32],
+)
+    requires { ⌜ Listed posts (now a) (now b) (now lengths) (now tree) × (posts ≤ length (now paths)) ⌝ }
+    ensures { λ _. ⌜ now (paths .exit) ≡ tab posts (pathIn (segmentsOf (now (a .entry)) (now (b .entry)) (now (lengths .entry))) posts (take posts (now (tree .entry)))) ++ drop posts (now (paths .entry)) ⌝ }
+{
+    begin_paths(posts, tree, paths);
+    let mut v = 0;
+    while v < posts {
+        let path = find_path(posts, a, b, lengths, tree, paths, v);
+        note_path(posts, a, b, lengths, tree, v, path, paths);
+        v += 1;
+    }
+}
+
+// The largest number of a list, and 0 where it has none.
+fn largest_of(list: &[u32]) -> u32
+    ensures { λ r. ⌜ r ≡ largest (length (now (list .entry))) (note (now (list .entry))) ⌝ }
+{
+    let mut most = 0;
+    let mut i = 0;
+    while i < list.len() {
+        if list[i] > most {
+            most = list[i];
+        }
+        i += 1;
+    }
     most
+}
+
+// The longest path of the tree.
+pub fn radius_of(posts: usize, a: &[u16], b: &[u16], lengths: &[u32], tree: &[u16]) -> u32
+    requires { ⌜ Listed posts (now a) (now b) (now lengths) (now tree) ⌝ }
+    ensures { λ r. ⌜ r ≡ radius (segmentsOf (now (a .entry)) (now (b .entry)) (now (lengths .entry))) posts (take posts (now (tree .entry))) ⌝ }
+{
+    let mut paths = [0u32; 256];
+    paths_of(posts, a, b, lengths, tree, &mut paths[..posts]);
+    largest_of(&paths[..posts])
 }

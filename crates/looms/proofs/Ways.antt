@@ -4,6 +4,7 @@ use mathlib.Core.List.{List, _++_}
 use mathlib.Core.Option.{Option, none, some}
 use Prim.Native.Nat.{ℕ, _≤_, _<_}
 use native.Mathlib.Omega.{arith}
+use native.Mathlib.Nat.{le-refl}
 use borrow.Author.Tests.{le-ltb}
 use lib.ListN.{length, drop, take}
 use lib.Seq.{take-all}
@@ -11,10 +12,10 @@ use mathlib.Core.Bool.{false, _||_}
 use lib.Dec.{ltb}
 use Rattle.net.specs.Net.{Net, every, segmentsOf, netOf}
 use Rattle.net.specs.Refusals.{Lent, refusal, first, headLines, netLines, lentLines, joinedLines, checkedOf, checkOf}
-use Rattle.net.specs.Rules.{TooShort, BuildRule}
+use Rattle.net.specs.Rules.{TooShort, AllJoined, BuildRule}
 use Rattle.net.specs.Rules as R
-use Rattle.net.specs.Trees.{leastLengths, whole, radius}
-use Rattle.net.specs.Building.{lightestOf, shortestOf, betweenOf, laidOf, treeOf, joinedToSource, buildRefusal, measured, buildAnswer, buildOf, listAfter, afterBuild}
+use Rattle.net.specs.Trees.{leastLengths, whole, radius, IsTree}
+use Rattle.net.specs.Building.{lightestOf, shortestOf, walkOf, betweenOf, laidOf, treeOf, joinedToSource, buildRefusal, measured, buildAnswer, buildOf, listAfter, afterBuild}
 use Rattle.net.specs.declared.Head.{Head}
 use Rattle.net.specs.declared.Measured.{Measured}
 use Rattle.net.specs.declared.Segment.{Segment}
@@ -23,14 +24,18 @@ use Rattle.net.specs.declared.Checked.{Checked}
 use Rattle.net.specs.declared.Checked.the-variants.{Refused as Unsound}
 use Rattle.net.proofs.Tables.{FirstOf, below, end, first-only, first-is, some-append, none-append}
 use Rattle.net.proofs.Faults.{sound-first}
-use Rattle.net.proofs.Refusals.{build-only}
+use Rattle.net.proofs.Refusals.{build-only, accepted}
 use Rattle.net.proofs.Checks.{said-refused, check-faulty}
+use Rattle.net.proofs.Sound.{lightest-tree, shortest-tree, between-tree}
 use Rattle.hanging.specs.Lists.{note}
+use Rattle.hanging.specs.Paths.{Listed}
+use Rattle.hanging.proofs.Paths.{tree-rooted}
 use Rattle.shortest.specs.Notes.{LowestApart}
 use Rattle.net.proofs.Segments.{length-segments}
 use Rattle.trees.specs.Ready.{netAt, Ready}
+use Rattle.trees.proofs.Ready.{ready-few, ready-posts, ready-inside, ready-short}
 use Rattle.trees.proofs.Joined.{table-apart, table-joined}
-use Rattle.looms.specs.Answers.{measuredIn, lentOf, Leaves, BuiltAll}
+use Rattle.looms.specs.Answers.{measuredIn, TreeOf, lentOf, Leaves, BuiltAll}
 use Rattle.looms.specs.declared.Answer.{Answer}
 use Rattle.looms.specs.declared.Answer.the-variants.{Built, Refused}
 
@@ -83,9 +88,42 @@ module _ (head : Head) (a b lengths l s w : List ℕ) where
         leaves-apart p f = rw f (leaves-refused _ _ l s w (joined-left (table-apart r posts-is source-is rest e z p)))
 
         -- every post is joined
+        pub all-joined : posts ≤ apart → AllJoined every (netAt head a b lengths)
+        all-joined p = (accepted every _ (netAt head a b lengths) (lentOf l s w) .0 (sym (joined-left (table-joined r posts-is source-is rest e z p)))) .2
+
         pub leaves-joined : posts ≤ apart → {x : Answer} {l′ s′ w′ : List ℕ} → BuiltAll (netAt head a b lengths) l s w x l′ s′ w′
             → Leaves (netAt head a b lengths) (length (segmentsOf a b lengths)) l s w x l′ s′ w′
         leaves-joined p y = leaves-built _ _ l s w (joined-left (table-joined r posts-is source-is rest e z p)) y
+
+-- THE TREES of a net whose posts are all joined
+module _ {head : Head} {a b lengths : List ℕ} (r : Ready head a b lengths) (j : AllJoined every (netAt head a b lengths)) where
+  tree-of : {t : List ℕ} {path : ℕ → ℕ} → IsTree (segmentsOf a b lengths) every (head .posts) (head .source) t path → TreeOf (netAt head a b lengths) t
+  tree-of {t} z =
+      record { one-each = z .one-each; rooted = tree-rooted (segmentsOf a b lengths) every (head .posts) (head .source) t (ready-inside r) (omega (arith, r .sound .few-segments)) z }
+
+  pub lightest-of : {t : List ℕ} → t ≡ lightestOf every (netAt head a b lengths) → TreeOf (netAt head a b lengths) t
+  lightest-of e = rw e (tree-of (lightest-tree every _ (netAt head a b lengths) (le-refl _) (r .sound) j))
+
+  pub shortest-of : {t : List ℕ} → t ≡ shortestOf every (netAt head a b lengths) → TreeOf (netAt head a b lengths) t
+  shortest-of e = rw e (tree-of (shortest-tree every _ (netAt head a b lengths) (le-refl _) (r .sound) j))
+
+  pub between-of : {t : List ℕ} → t ≡ betweenOf every (netAt head a b lengths) → TreeOf (netAt head a b lengths) t
+  unfolding betweenOf walkOf
+  between-of e = rw e (tree-of (between-tree every _ (netAt head a b lengths) (le-refl _) (r .sound) j (λ _. head .p) (λ _. head .q)))
+
+-- what `radius_of` asks of one
+pub listed-at : {head : Head} {a b lengths : List ℕ} → Ready head a b lengths → {posts : ℕ} → posts ≡ head .posts → {t : List ℕ} → TreeOf (netAt head a b lengths) t → Listed posts a b lengths t
+listed-at r {posts} posts-is {t} z =
+    let k : take posts t ≡ t = take-all posts t (omega (arith, z .one-each)) in
+    record {
+      few-posts = omega (arith, ready-posts r);
+      entries = omega (arith, z .one-each);
+      few = ready-few r;
+      b-many = r .b-level;
+      lengths-many = r .lengths-level;
+      short = ready-short r;
+      rooted = rw (k, posts-is) (z .rooted);
+    }
 
 -- length and radius of a tree that has an entry for each post; posts is the head's as an index
 pub measured-at : {head : Head} {a b lengths : List ℕ} → Ready head a b lengths → {posts : ℕ} → posts ≡ head .posts → (t : List ℕ) → length t ≡ head .posts → {x y : ℕ}

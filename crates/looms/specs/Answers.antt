@@ -10,12 +10,18 @@ use Rattle.net.specs.Trees.{whole, radius}
 use Rattle.net.specs.Building.{BuildAnswer, built, refused, buildOf, buildAnswer, listAfter, afterBuild}
 use Rattle.net.specs.declared.Measured.{Measured}
 use Rattle.net.specs.declared.Tree.the-variants.{Lightest, Shortest, Between}
+use Rattle.hanging.specs.Paths.{Rooted}
 use Rattle.looms.specs.declared.Answer.{Answer}
 use Rattle.looms.specs.declared.Answer.the-variants.{Built, Refused}
 
 -- length and radius of a tree list of a net
 abbrev pub measuredIn : Net → List ℕ → Measured
 measuredIn n t = record { length = whole (n .segments) (n .head .posts) t; radius = radius (n .segments) (n .head .posts) t }
+
+-- a tree list of a net: an entry for each post, and the way up from every post ends
+pub record TreeOf (n : Net) (t : List ℕ) : Type 0 where
+  pub one-each : length t ≡ n .head .posts
+  pub rooted : Rooted (n .segments) (n .head .posts) t
 
 -- what building answers in the code's enum
 abbrev pub answerOf : BuildAnswer → Answer

@@ -9,10 +9,11 @@ ghost use mathlib.Core.Path.{_≡_};
 ghost use mathlib.Core.List.{_++_};
 ghost use Prim.Native.Nat.{_≤_, _<_};
 ghost use lib.ListN.{length as size, drop};
-ghost use Rattle.net.specs.Net.{segmentsOf, netOf};
+ghost use Rattle.net.specs.Net.{segmentsOf, every, netOf};
 ghost use Rattle.net.specs.Refusals.{refusal};
+ghost use Rattle.net.specs.Rules.{AllJoined};
 ghost use Rattle.trees.specs.Ready.{netAt, Ready, Worked};
-ghost use Rattle.looms.specs.Answers.{measuredIn, BuiltAll, Leaves};
+ghost use Rattle.looms.specs.Answers.{measuredIn, TreeOf, BuiltAll, Leaves};
 ghost use Rattle.looms.specs.declared.Answer.the-variants.{Built, Refused};
 
 // "An answer is either a result or a refusal with its number and its place."
@@ -28,7 +29,7 @@ pub enum Answer {
 
 // Length and radius of a tree of a net.
 fn measure(head: Head, a: &[u16], b: &[u16], lengths: &[u32], tree: &[u16]) -> Measured
-    requires { ⌜ Ready head (now a) (now b) (now lengths) × (size (now tree) ≡ head .posts) ⌝ }
+    requires { ⌜ Ready head (now a) (now b) (now lengths) × TreeOf (netAt head (now a) (now b) (now lengths)) (now tree) ⌝ }
     ensures { λ r. ⌜ r ≡ measuredIn (netAt head (now (a .entry)) (now (b .entry)) (now (lengths .entry))) (now (tree .entry)) ⌝ }
 {
     let posts = trees::index_of(head.posts);
@@ -79,7 +80,8 @@ fn answer_for(
     third: &[u16],
     laid: u32,
 ) -> Answer
-    requires { ⌜ Ready head (now a) (now b) (now lengths) × (size (now light) ≡ head .posts) × (size (now short) ≡ head .posts) × (size (now third) ≡ head .posts) ⌝ }
+    requires { ⌜ Ready head (now a) (now b) (now lengths) ⌝ }
+    requires { ⌜ TreeOf (netAt head (now a) (now b) (now lengths)) (now light) × TreeOf (netAt head (now a) (now b) (now lengths)) (now short) × TreeOf (netAt head (now a) (now b) (now lengths)) (now third) ⌝ }
     ensures { λ r. ⌜ r ≡ Built (measuredIn (netAt head (now (a .entry)) (now (b .entry)) (now (lengths .entry))) (now (light .entry))) (measuredIn (netAt head (now (a .entry)) (now (b .entry)) (now (lengths .entry))) (now (short .entry))) (measuredIn (netAt head (now (a .entry)) (now (b .entry)) (now (lengths .entry))) (now (third .entry))) laid ⌝ }
 {
     Answer::Built {
@@ -104,7 +106,7 @@ fn build_joined(
     shortest: &mut [u16],
     between: &mut [u16],
 ) -> Answer
-    requires { ⌜ Ready head (now a) (now b) (now lengths) × Worked (netAt head (now a) (now b) (now lengths)) (now dist) (now short) ⌝ }
+    requires { ⌜ Ready head (now a) (now b) (now lengths) × Worked (netAt head (now a) (now b) (now lengths)) (now dist) (now short) × AllJoined every (netAt head (now a) (now b) (now lengths)) ⌝ }
     requires { ⌜ (size (now short) ≡ head .posts) × (size (now light) ≡ head .posts) × (size (now third) ≡ head .posts) ⌝ }
     requires { ⌜ (head .posts ≤ size (now lightest)) × (head .posts ≤ size (now shortest)) × (head .posts ≤ size (now between)) ⌝ }
     ensures { λ r. ⌜ BuiltAll (netAt head (now (a .entry)) (now (b .entry)) (now (lengths .entry))) (now (lightest .entry)) (now (shortest .entry)) (now (between .entry)) r (now (lightest .exit)) (now (shortest .exit)) (now (between .exit)) ⌝ }

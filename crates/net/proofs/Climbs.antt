@@ -1,5 +1,5 @@
 -- Laws of paths in a tree list. From a post there is one climb (`climb-same`); it is a route of the net (`climb-route`); it has fewer segments than
--- there are posts, so that `pathIn` follows it to its end (`climb-path`). No segment need have a length above 0.
+-- there are posts (`climb-few`), so that `pathIn` follows it to its end (`climb-path`). No segment need have a length above 0.
 -- Then the tree of entries under falling notes: it stays a tree when a post is hung anew (`anew`, `at-new`).
 use mathlib.Core.Path.{_≡_, refl, sym, ap, _∙_, subst}
 use mathlib.Core.Bool.{Bool, true, false}
@@ -28,7 +28,7 @@ module _ (segs : List Segment) (t : List ℕ) where
   upN (suc j) v = upN j (parent segs t v)
 
   -- going up from v comes to s after k steps, and not before
-  abbrev UpBy : ℕ → ℕ → ℕ → Type 0
+  abbrev pub UpBy : ℕ → ℕ → ℕ → Type 0
   UpBy s zero v = v ≡ s
   UpBy s (suc k) v = (v ≡ s → ⊥) × UpBy s k (parent segs t v)
 
@@ -119,12 +119,18 @@ module _ (segs : List Segment) (ok : ℕ → Bool) (t : List ℕ) (s : ℕ) wher
         longer k g zero z = absurd (omega arith)
         longer k g (suc f) z = step-path f l (g f (omega arith))
 
+    ascent-few : {v long : ℕ} (a : Ascent v long) → a .k < n
+    ascent-few {v} a =
+        omega (arith, steps-marked segs t s (a .k) v (replicate n true) (a .by-k) (λ j z. getD-replicate n (upN segs t j v) true false (a .within j z)), marked-all n)
+
+    -- a climb has fewer segments than there are posts
+    pub climb-few : {v long : ℕ} → v < n → Climb segs ok t s v long → (k : ℕ) × (k < n) × UpBy segs t s k v
+    climb-few h c = let a = ascent h c in (a .k, ascent-few a, a .by-k)
+
     -- `pathIn` is the length of the climb
     pub climb-path : {v long : ℕ} → v < n → Climb segs ok t s v long → pathIn segs n t v ≡ long
     unfolding pathIn
-    climb-path {v} h c =
-        let a = ascent h c in
-        a .path n (omega (arith, steps-marked segs t s (a .k) v (replicate n true) (a .by-k) (λ j z. getD-replicate n (upN segs t j v) true false (a .within j z)), marked-all n))
+    climb-path h c = let a = ascent h c in a .path n (omega (arith, ascent-few a))
 
 -- THE TREE OF ENTRIES UNDER FALLING NOTES
 -- from v up to s by the entries e, each segment's length within the fall of the notes d

@@ -1,38 +1,40 @@
--- `hanging::radius_of` meets its contract: at the head of the loop the longest path of the posts passed (`Longest`).
-use mathlib.Core.Logic.{⊎-elim}
-use mathlib.Core.Path.{_≡_}
-use Prim.Native.Nat.{_≤_, _-_}
+-- `hanging::radius_of` meets its contract: the largest of the paths is the radius (`largest-radius`).
+use lib.ListN.{length-take, length-append, length-drop, replicate}
+use Rattle.hanging.proofs.Paths.{lent-radius}
 use native.Mathlib.Omega.{arith}
-use lib.ListN.{take}
-use Rattle.hanging.proofs.Measures.{Longest, longest-none, longest-more, longest-kept, longest-all}
+use borrow.Author.Needs.{needs}
 use Rattle.hanging.proofs.radius_of.Statement.{statement}
 use Rattle.hanging.proofs.radius_of.Tie as tie
 
-abbrev Inv-loop : tie.InvT-loop
-Inv-loop posts a b lengths tree most₀ v₀ most v = (v ≤ posts) × Longest a b lengths posts (take posts tree) v most
+array-borrow-prefix-paths : tie.Need-array-borrow-prefix-paths
+array-borrow-prefix-paths c = search needs
 
-abbrev μ-loop : tie.MeasureT-loop
-μ-loop posts a b lengths tree most₀ v₀ most v = posts - v
+slice-aggregate-paths-of : tie.Need-slice-aggregate-paths-of
+slice-aggregate-paths-of c = simp length-take (omega (arith, c .before .before .before .before .before .pre .few-posts))
 
-loop-holds : tie.Need-loop-holds Inv-loop μ-loop
-loop-holds c = (omega arith, longest-none)
+paths-of-requires : tie.Need-paths-of-requires
+paths-of-requires c κs = (c .before .before .before .before .before .pre, simp length-take (omega (arith, c .before .before .before .before .before .pre .few-posts)))
 
-path-of-requires : tie.Need-path-of-requires Inv-loop μ-loop
-path-of-requires c κs = c .before .before .before .before .before .before .pre
+array-share-prefix-paths : tie.Need-array-share-prefix-paths
+array-share-prefix-paths c = simp (length-append, length-drop) (omega (arith, c .before .before .before .before .before .before .before .pre .few-posts, simp length-take at (c .before .paths-of .kept .1 .1 .1 .1 .1 .0)))
 
-add-v : tie.Need-add-v Inv-loop μ-loop
-add-v c = omega arith
+slice-aggregate-largest-of : tie.Need-slice-aggregate-largest-of
+slice-aggregate-largest-of c = simp (length-take, length-append, length-drop) (omega (arith, c .before .before .before .before .before .before .before .before .pre .few-posts, simp length-take at (c .before .before .paths-of .kept .1 .1 .1 .1 .1 .0)))
 
-loop-less : tie.Need-loop-less Inv-loop μ-loop
-loop-less c = omega arith
+largest-of-requires : tie.Need-largest-of-requires
+largest-of-requires c κs = search needs
 
-loop-again : tie.Need-loop-again Inv-loop μ-loop
-loop-again c = (omega arith, ⊎-elim (λ w. rw (w .1) (longest-more (c .before .before .before .loop .inv .1) (c .before .path-of .ensures) (w .0 .taken))) (λ w. rw (w .1) (longest-kept (c .before .before .before .loop .inv .1) (c .before .path-of .ensures) (omega (arith, w .0 .left)))) (c .if1 .came))
-
-returns : tie.Need-returns Inv-loop μ-loop
-returns c = let e : c .before .loop .v ≡ c .before .before .before .before .before .before .args .posts = omega arith in let r = c .before .loop .inv .1 in longest-all (rw e at r)
+returns : tie.Need-returns
+returns c = lent-radius _ _ _ (replicate 256 0) (c .before .before .before .before .before .before .before .before .before .pre .few-posts) (c .before .before .before .paths-of .kept .1 .1 .1 .1 .1 .0) (c .before .before .before .paths-of .ensures) (c .largest-of .ensures)
 
 pub radius-of-spec : {M : Type 1} → statement M
 radius-of-spec =
     tie.close
-    (tie.spec Inv-loop μ-loop loop-holds path-of-requires add-v loop-less loop-again returns)
+    (tie.spec
+    array-borrow-prefix-paths
+    slice-aggregate-paths-of
+    paths-of-requires
+    array-share-prefix-paths
+    slice-aggregate-largest-of
+    largest-of-requires
+    returns)

@@ -1,7 +1,7 @@
 -- `build_in` meets its contract: the lowest post without a least length is that of 9. Assumes nothing.
 use mathlib.Core.Path.{_∙_}
 use Rattle.trees.proofs.Ready.{ready-posts, ready-source, ends-at, worked-at}
-use Rattle.looms.proofs.Ways.{leaves-apart, leaves-joined}
+use Rattle.looms.proofs.Ways.{leaves-apart, all-joined, leaves-joined}
 use native.Mathlib.Omega.{arith}
 use borrow.Author.Needs.{needs}
 use Rattle.looms.proofs.build_in.Statement.{statement}
@@ -32,7 +32,7 @@ returns : tie.Need-returns
 returns c = let p = c .before .before .before .before .before .before .before .before .before .before .before .before .before .before .before .before .before .before .before .before .before .before .before .pre in let a = c .before .before .before .before .before .before .before .before .before .before .before .before .before .before .before .before .before .before .before .before .before .before .before .args in leaves-apart _ _ _ _ (a .lightest .now) (a .shortest .now) (a .between .now) (p .0) (p .1 .1 .0) (p .1 .1 .1) (p .1 .1 .2) (c .before .before .before .before .before .before .before .before .before .before .before .before .index-of .ensures) (c .before .before .before .before .before .before .before .before .before .before .before .index-of2 .ensures) _ (c .before .before .before .before .before .before .before .before .shortest-tree .ensures .0) (c .before .before .lowest-apart .ensures) (omega arith) (c .refuse .ensures)
 
 build-joined-requires : tie.Need-build-joined-requires
-build-joined-requires c κs = let p = c .before .before .before .before .before .before .before .before .before .before .before .before .before .before .before .before .before .before .before .before .before .before .before .before .before .before .before .before .before .pre in let a = c .before .before .before .before .before .before .before .before .before .before .before .before .before .before .before .before .before .before .before .before .before .before .before .before .before .before .before .before .before .args in let t = c .before .before .before .before .before .before .before .before .before .before .before .before .before .before .shortest-tree in ((p .0, worked-at (p .0) (c .before .before .before .before .before .before .before .before .before .before .before .before .before .before .before .before .before .before .index-of .ensures) (c .before .before .before .before .before .before .before .before .before .before .before .before .before .before .before .before .before .index-of2 .ensures) (a .dist .now) (a .short .now) (p .1 .0 .0) (p .1 .0 .1) (t .ensures .0) (t .ensures .1)), ((t .kept .1 .1 .1 .1 .1 .1 .0 ∙ p .1 .0 .1, p .1 .0 .2, p .1 .0 .3), p .1 .1))
+build-joined-requires c κs = let p = c .before .before .before .before .before .before .before .before .before .before .before .before .before .before .before .before .before .before .before .before .before .before .before .before .before .before .before .before .before .pre in let a = c .before .before .before .before .before .before .before .before .before .before .before .before .before .before .before .before .before .before .before .before .before .before .before .before .before .before .before .before .before .args in let t = c .before .before .before .before .before .before .before .before .before .before .before .before .before .before .shortest-tree in ((p .0, worked-at (p .0) (c .before .before .before .before .before .before .before .before .before .before .before .before .before .before .before .before .before .before .index-of .ensures) (c .before .before .before .before .before .before .before .before .before .before .before .before .before .before .before .before .before .index-of2 .ensures) (a .dist .now) (a .short .now) (p .1 .0 .0) (p .1 .0 .1) (t .ensures .0) (t .ensures .1), all-joined _ _ _ _ (a .lightest .now) (a .shortest .now) (a .between .now) (p .0) (p .1 .1 .0) (p .1 .1 .1) (p .1 .1 .2) (c .before .before .before .before .before .before .before .before .before .before .before .before .before .before .before .before .before .before .index-of .ensures) (c .before .before .before .before .before .before .before .before .before .before .before .before .before .before .before .before .before .index-of2 .ensures) _ (t .ensures .0) (c .before .before .before .before .before .before .before .before .lowest-apart .ensures) (omega (arith, c .before .before .before .before .before .before .before .if1 .left))), ((t .kept .1 .1 .1 .1 .1 .1 .0 ∙ p .1 .0 .1, p .1 .0 .2, p .1 .0 .3), p .1 .1))
 
 same-length-3 : tie.Need-same-length-3
 same-length-3 c = omega arith

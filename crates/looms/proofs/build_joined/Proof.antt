@@ -1,6 +1,6 @@
 -- `build_joined` meets its contract: two trees are worked out, three are put into the lists and measured. Assumes nothing.
 use mathlib.Core.Path.{_∙_}
-use Rattle.looms.proofs.Ways.{built-all}
+use Rattle.looms.proofs.Ways.{lightest-of, shortest-of, between-of, built-all}
 use native.Mathlib.Omega.{arith}
 use Rattle.looms.proofs.build_joined.Statement.{statement}
 use Rattle.looms.proofs.build_joined.Tie as tie
@@ -15,7 +15,7 @@ put-all-requires : tie.Need-put-all-requires
 put-all-requires c κs = let p = c .before .before .before .before .before .before .before .before .before .before .before .before .before .before .before .before .before .before .before .before .before .before .before .before .pre .1 in let e = c .before .before .before .before .before .before .before .before .before .before .before .before .lightest-tree .kept .1 .1 .1 .1 .0 in let f = c .before .before .before .before .before .before .before .third-tree .kept .1 .1 .1 .1 .1 .1 .1 .0 in (omega (arith, e, p .0 .1, p .1 .0), omega (arith, p .0 .0, p .1 .1), omega (arith, f, p .0 .2, p .1 .2))
 
 answer-for-requires : tie.Need-answer-for-requires
-answer-for-requires c κs = let p = c .before .before .before .before .before .before .before .before .before .before .before .before .before .before .before .before .before .before .before .before .before .before .before .before .before .before .before .before .before .before .before .before .before .pre in (p .0 .0, c .before .before .before .before .before .before .before .before .before .before .before .before .before .before .before .before .before .before .before .before .before .lightest-tree .kept .1 .1 .1 .1 .0 ∙ p .1 .0 .1, p .1 .0 .0, c .before .before .before .before .before .before .before .before .before .before .before .before .before .before .before .before .third-tree .kept .1 .1 .1 .1 .1 .1 .1 .0 ∙ p .1 .0 .2)
+answer-for-requires c κs = let p = c .before .before .before .before .before .before .before .before .before .before .before .before .before .before .before .before .before .before .before .before .before .before .before .before .before .before .before .before .before .before .before .before .before .pre .0 in (p .0, (lightest-of (p .0) (p .2) (c .before .before .before .before .before .before .before .before .before .before .before .before .before .before .before .before .before .before .before .before .before .lightest-tree .ensures), shortest-of (p .0) (p .2) (p .1 .tree-is), between-of (p .0) (p .2) (c .before .before .before .before .before .before .before .before .before .before .before .before .before .before .before .before .third-tree .ensures .1)))
 
 same-length : tie.Need-same-length
 same-length c = omega arith

@@ -1,0 +1,21 @@
+-- `hanging::end_at` meets its contract: a read within the list.
+use mathlib.Core.Path.{refl}
+use native.Mathlib.Omega.{arith}
+use borrow.Author.Needs.{needs}
+use Rattle.hanging.proofs.end_at.Statement.{statement}
+use Rattle.hanging.proofs.end_at.Tie as tie
+
+mul-result : tie.Need-mul-result
+mul-result c = search needs
+
+shared-slice-read-result : tie.Need-shared-slice-read-result
+shared-slice-read-result c = search needs
+
+cast-result : tie.Need-cast-result
+cast-result c = omega (arith, c .shared-slice-known .given (c .before .args .i))
+
+returns : tie.Need-returns
+returns c = refl
+
+pub end-at-spec : {M : Type 1} → statement M
+end-at-spec = tie.close (tie.spec mul-result shared-slice-read-result cast-result returns)
