@@ -91,8 +91,8 @@ fn hook(u: usize, v: usize, i: u16, c: u32, dist: &[u64], tree: &mut [u16])
     requires { ⌜ (u < length (now dist)) × (v < length (now dist)) × (v < length (now tree)) × (getD (now dist) u 0 ≤ noneYet) ⌝ }
     ensures { λ _. ⌜ Hooked u v i c (note (now (dist .entry))) (now (tree .entry)) (now (tree .exit)) ⌝ }
 {
-    if tree[v] == NO_SEGMENT {
-        if dist[u] + wide(c) == dist[v] {
+    if dist[u] + wide(c) == dist[v] {
+        if tree[v] == NO_SEGMENT {
             tree[v] = i;
         }
     }
