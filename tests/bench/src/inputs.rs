@@ -13,11 +13,22 @@ pub struct Size {
 }
 
 impl Size {
-    /// The sizes that are measured, the largest that there may be last.
-    pub const ALL: [Size; 3] = [Size::new(16, 64), Size::new(64, 256), Size::new(256, 2_048)];
+    /// The sizes that are measured: a chain of posts, which has no segment to spare, and then frames, the largest that
+    /// there may be last.
+    pub const ALL: [Size; 4] = [
+        Size::new(256, 255),
+        Size::new(16, 64),
+        Size::new(64, 256),
+        Size::new(256, 2_048),
+    ];
 
     const fn new(posts: u32, segments: u32) -> Self {
         Size { posts, segments }
+    }
+
+    /// Whether a net of this size is a chain.
+    const fn is_chain(self) -> bool {
+        self.segments < self.posts
     }
 
     /// How it is written in tables and as an argument.
@@ -52,8 +63,8 @@ fn length((ax, ay): (u32, u32), (bx, by): (u32, u32)) -> u32 {
     (ax.abs_diff(bx) + ay.abs_diff(by)).max(1)
 }
 
-/// A joined net of posts at random places on a square frame: first a random tree,
-/// then segments between posts of which one is, mostly, near the other.
+/// A joined net of posts at random places on a square frame: first a random tree, or
+/// a chain, then segments between posts of which one is, mostly, near the other.
 fn net_on_frame(random: &mut Random, size: Size) -> Net {
     let places: Vec<(u32, u32)> = (0..size.posts)
         .map(|_| (random.below(FRAME), random.below(FRAME)))
@@ -61,7 +72,14 @@ fn net_on_frame(random: &mut Random, size: Size) -> Net {
     let joined =
         |a: u32, b: u32| Segment::new(a, b, length(places[a as usize], places[b as usize]));
     let mut segments: Vec<Segment> = (1..size.posts)
-        .map(|post| joined(random.below(post), post))
+        .map(|post| {
+            let other = if size.is_chain() {
+                post - 1
+            } else {
+                random.below(post)
+            };
+            joined(other, post)
+        })
         .collect();
     while segments.len() < size.segments as usize {
         let a = random.below(size.posts);
