@@ -1,6 +1,6 @@
 /* Header and library agree: every function of the header is found by linking,
  * and answers document 01's worked examples. Prints what isn't as worked; the
- * exit status is then 1. */
+ * exit status is then 1, as it is where an argument is given. */
 #include "droverboot.h"
 #include <stdio.h>
 #include <string.h>
@@ -86,7 +86,9 @@ static void drawn(void) {
     expect(drover_place(drover_drawn(1, bits(1.0), bits(-1.0))) == 1, "the place of a refusal");
 }
 
-int main(void) {
+int main(int arguments, char **names) {
+    (void)names;
+    expect(arguments == 1, "an argument");
     check();
     plan();
     rewrite();

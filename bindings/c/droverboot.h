@@ -36,27 +36,51 @@ extern "C" {
 /* A tree's entry for the source, which hangs on nothing. */
 #define DROVER_SOURCE_ENTRY 65535
 
-/* Why something was refused, and what its place is. */
+/* Why something was refused, and what its place is. docs/RULES.md has the same
+ * table, and says which refusal comes first. */
 enum drover_refusal {
-    DROVER_POST_COUNT = 1,      /* post count 0 or above 256; 0 */
-    DROVER_SOURCE = 2,          /* source not below the post count; 0 */
-    DROVER_RATIO = 3,           /* q is 0, or p or q above 10,000; 0 */
-    DROVER_SEGMENT_COUNT = 4,   /* more than 2,048 segments; 0 */
-    DROVER_SEGMENT_END = 5,     /* a segment's end not below the post count; segment */
-    DROVER_SAME_ENDS = 6,       /* both ends of a segment the same; segment */
-    DROVER_SEGMENT_LENGTH = 7,  /* length 0 or above 1,048,575; segment */
-    DROVER_SHORT_LIST = 8,      /* a lent list has too few entries; 0 */
-    DROVER_NOT_JOINED = 9,      /* some post isn't joined to the source; lowest such post */
-    DROVER_CUT_RECORD = 10,     /* record ends before or inside a number; offset of that number */
-    DROVER_NUMBER_FORM = 11,    /* number not in its shortest form, or too long; its offset */
-    DROVER_EXTRA_BYTES = 12,    /* bytes after the last segment; offset of the first */
-    DROVER_NOT_FINITE = 13,     /* drawn length not finite; 0, second leg 1 */
-    DROVER_BELOW_ZERO = 14,     /* drawn length below zero; as 13 */
-    DROVER_ZERO = 15,           /* drawn length zero, of either sign; as 13 */
-    DROVER_NOT_SIXTEENTHS = 16, /* drawn length not a multiple of 1/16 mm; as 13 */
-    DROVER_TOO_LONG = 17,       /* drawn length above 65,535.9375 mm; as 13, legs together 2 */
-    DROVER_SHORT_ROOM = 18,     /* room for the written record too short; 0 */
-    DROVER_NO_SUCH_POST = 19    /* a post asked about isn't below the post count; 0 */
+    /* the post count is 0 or above 256; place: 0 */
+    DROVER_POST_COUNT = 1,
+    /* the source isn't below the post count; place: 0 */
+    DROVER_SOURCE = 2,
+    /* q is 0, or p or q is above 10,000; place: 0 */
+    DROVER_RATIO = 3,
+    /* there are more than 2,048 segments; place: 0 */
+    DROVER_SEGMENT_COUNT = 4,
+    /* a segment's end isn't below the post count; place: the segment */
+    DROVER_SEGMENT_END = 5,
+    /* both ends of a segment are the same; place: the segment */
+    DROVER_SAME_ENDS = 6,
+    /* a segment's length is 0 or above 1,048,575; place: the segment */
+    DROVER_SEGMENT_LENGTH = 7,
+    /* a list lent with one entry for each post has fewer entries than posts, or
+     * a lent segment list fewer than the record's segments; place: 0 */
+    DROVER_SHORT_LIST = 8,
+    /* a post isn't joined to the source; place: the lowest such post */
+    DROVER_NOT_JOINED = 9,
+    /* the record ends before a number, or inside one after at most three of its
+     * bytes; place: the offset of that number */
+    DROVER_CUT_RECORD = 10,
+    /* a number isn't in its shortest form, or its fourth group says that more
+     * follow; place: the offset of that number */
+    DROVER_NUMBER_FORM = 11,
+    /* bytes follow after the last segment; place: the offset of the first */
+    DROVER_EXTRA_BYTES = 12,
+    /* a drawn length isn't finite; place: 0, the second leg 1 */
+    DROVER_NOT_FINITE = 13,
+    /* a drawn length is below zero; place: 0, the second leg 1 */
+    DROVER_BELOW_ZERO = 14,
+    /* a drawn length is zero, of either sign; place: 0, the second leg 1 */
+    DROVER_ZERO = 15,
+    /* a drawn length isn't a multiple of 1/16 mm; place: 0, the second leg 1 */
+    DROVER_NOT_SIXTEENTHS = 16,
+    /* a drawn length, or both legs together, is above 65,535.9375 mm; place: 0,
+     * the second leg 1, both together 2 */
+    DROVER_TOO_LONG = 17,
+    /* the room for the written record is too short; place: 0 */
+    DROVER_SHORT_ROOM = 18,
+    /* the post asked about isn't below the post count; place: 0 */
+    DROVER_NO_SUCH_POST = 19
 };
 
 /* The three trees. */

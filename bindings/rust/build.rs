@@ -1,12 +1,13 @@
 //! Links the proved static library: the archive that DROVER_LIBRARY names, or
-//! else the one that `rt staticlib abi` writes in this repository.
+//! else the one that `rt staticlib c_calls` writes in this repository. For another
+//! processor than x86-64 there is nothing to link.
 
 use std::env;
 use std::path::{Path, PathBuf};
 use std::process;
 
-/// Where `rt staticlib abi` writes the archive, seen from this folder.
-const BUILT_ARCHIVE: &str = "../../target/staticlib/libabi.a";
+/// Where `rt staticlib c_calls` writes the archive, seen from this folder.
+const BUILT_ARCHIVE: &str = "../../target/staticlib/libc_calls.a";
 
 /// The archive to link.
 fn archive() -> PathBuf {
@@ -24,24 +25,20 @@ fn link_name(archive: &Path) -> Option<&str> {
 
 fn stop(archive: &Path, why: &str) -> ! {
     eprintln!("droverboot: {}: {why}.", archive.display());
-    eprintln!("Build the archive with `rt staticlib abi` in the repository's folder,");
+    eprintln!("Build the archive with `rt staticlib c_calls` in the repository's folder,");
     eprintln!("or let DROVER_LIBRARY be the whole path of an archive libNAME.a.");
     process::exit(1)
 }
 
-/// Says so where what is built can be checked but not linked.
-fn warn_of_other_processors() {
+fn main() {
+    println!("cargo:rerun-if-env-changed=DROVER_LIBRARY");
     let processor = env::var("CARGO_CFG_TARGET_ARCH").unwrap_or_default();
     if processor != "x86_64" {
         println!(
-            "cargo:warning=the static library is for x86-64 and can't be linked for {processor}"
+            "cargo:warning=the static library is for x86-64: nothing is linked for {processor}"
         );
+        return;
     }
-}
-
-fn main() {
-    println!("cargo:rerun-if-env-changed=DROVER_LIBRARY");
-    warn_of_other_processors();
     let given = archive();
     println!("cargo:rerun-if-changed={}", given.display());
     let Ok(archive) = given.canonicalize() else {

@@ -23,13 +23,17 @@
 //! Whatever can't be done is refused with a [`Refusal`]: a reason, which has a
 //! number, and a place. No record, run or list makes a function fail otherwise.
 //!
-//! The crate links the archive that `rt staticlib abi` writes in its repository,
+//! The crate links the archive that `rt staticlib c_calls` writes in its repository,
 //! or the one whose whole path the environment variable DROVER_LIBRARY gives. It
-//! is for x86-64; for another processor the crate can be checked and not linked.
+//! is for x86-64; for another processor nothing is linked, and the crate can be
+//! checked and run only as far as it calls no function of the library
+//! (`cargo test --lib`).
 
 #![deny(missing_docs)]
 #![deny(unsafe_op_in_unsafe_fn)]
 
+#[cfg(test)]
+mod header;
 mod plan;
 pub mod raw;
 mod refusal;

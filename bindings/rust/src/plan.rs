@@ -140,3 +140,36 @@ impl fmt::Display for Plan {
         writeln!(f, "laid {}", self.laid)
     }
 }
+
+#[cfg(test)]
+mod tests {
+    use super::*;
+
+    /// Net A's lists and summary, as the library leaves them.
+    fn net_a() -> Plan {
+        let mut lists = [[99; MOST_POSTS]; 3];
+        for (list, entries) in lists.iter_mut().zip([[0, 1, 2], [0, 4, 3], [0, 1, 3]]) {
+            list[0] = SOURCE_ENTRY;
+            list[1..4].copy_from_slice(&entries);
+        }
+        Plan::from_lists(&lists, [4, 5, 0, 1, 1, 12, 12, 15, 6, 13, 8, 1])
+    }
+
+    #[test]
+    fn a_plan_is_read_from_lists_and_summary() {
+        let plan = net_a();
+        assert_eq!((plan.posts, plan.segments, plan.source), (4, 5, 0));
+        assert_eq!((plan.p, plan.q, plan.laid), (1, 1, 1));
+        assert_eq!((plan.shortest.length, plan.shortest.radius), (15, 6));
+        assert_eq!(plan.tree(Tree::Between).entries, [SOURCE_ENTRY, 0, 1, 3]);
+        assert_eq!(plan.lightest.segment_of(3), Some(2));
+        assert_eq!(plan.lightest.segment_of(0), None);
+        assert_eq!(plan.lightest.segment_of(4), None);
+    }
+
+    #[test]
+    fn a_plan_is_printed_as_the_program_prints_it() {
+        let stored = include_str!("../../../examples/net-a.txt");
+        assert_eq!(net_a().to_string(), stored);
+    }
+}

@@ -65,14 +65,14 @@ reasons! {
     5 SegmentEnd Segment "a segment's end isn't below the post count"
     6 SameEnds Segment "both ends of a segment are the same"
     7 SegmentLength Segment "a segment's length is 0 or above 1,048,575"
-    8 ShortList Nothing "a lent list has too few entries"
+    8 ShortList Nothing "a list lent with one entry for each post has fewer entries than posts, or a lent segment list fewer than the record's segments"
     9 NotJoined Post "a post isn't joined to the source"
-    10 CutRecord Byte "the record ends before a number or inside it"
-    11 NumberForm Byte "a number isn't in its shortest form, or has more than four groups"
+    10 CutRecord Byte "the record ends before a number, or inside one after at most three of its bytes"
+    11 NumberForm Byte "a number isn't in its shortest form, or its fourth group says that more follow"
     12 ExtraBytes Byte "bytes follow after the last segment"
     13 NotFinite Leg "a drawn length isn't finite"
     14 BelowZero Leg "a drawn length is below zero"
-    15 Zero Leg "a drawn length is zero"
+    15 Zero Leg "a drawn length is zero, of either sign"
     16 NotSixteenths Leg "a drawn length isn't a multiple of 1/16 mm"
     17 TooLong Leg "a drawn length, or both legs together, is above 65,535.9375 mm"
     18 ShortRoom Nothing "the room for the written record is too short"
@@ -157,5 +157,64 @@ pub(crate) fn number_or_refusal(answer: u64) -> Result<u64, Refusal> {
         Ok(answer)
     } else {
         Err(Refusal::in_answer(answer))
+    }
+}
+
+#[cfg(test)]
+mod tests {
+    use super::*;
+
+    #[test]
+    fn every_reason_has_its_number_and_words() {
+        for (number, &reason) in (1..).zip(Reason::ALL) {
+            assert_eq!(reason.number(), number);
+            assert_eq!(Reason::from_number(number), Some(reason));
+        }
+        assert_eq!(Reason::ALL.len(), 19);
+        assert_eq!(Reason::from_number(0), None);
+        assert_eq!(Reason::from_number(20), None);
+        let words: std::collections::HashSet<_> = Reason::ALL.iter().map(|r| r.words()).collect();
+        assert_eq!(words.len(), Reason::ALL.len());
+    }
+
+    #[test]
+    fn refusals_in_words() {
+        let words = |reason, place| Refusal { reason, place }.to_string();
+        assert_eq!(
+            words(Reason::NotJoined, 1),
+            "refusal 9 at post 1: a post isn't joined to the source"
+        );
+        assert_eq!(
+            words(Reason::ShortRoom, 0),
+            "refusal 18: the room for the written record is too short"
+        );
+        assert_eq!(
+            words(Reason::SameEnds, 7),
+            "refusal 6 at segment 7: both ends of a segment are the same"
+        );
+        assert!(words(Reason::CutRecord, 3).starts_with("refusal 10 at byte 3: "));
+        assert!(words(Reason::Zero, 1).starts_with("refusal 15 at leg 1: "));
+        assert!(words(Reason::TooLong, 2).starts_with("refusal 17 at both legs: "));
+    }
+
+    #[test]
+    fn refusals_in_answers() {
+        let refusal = Refusal {
+            reason: Reason::NotJoined,
+            place: 7,
+        };
+        let answer = 9 << 32 | 7;
+        assert_eq!(nothing_or_refusal(0), Ok(()));
+        assert_eq!(nothing_or_refusal(answer), Err(refusal));
+        assert_eq!(number_or_refusal(0), Ok(0));
+        assert_eq!(number_or_refusal(answer), Ok(answer));
+        assert_eq!(number_or_refusal(REFUSED | answer), Err(refusal));
+        assert_eq!(refusal.line(), "refused 9 7");
+    }
+
+    #[test]
+    #[should_panic(expected = "the unknown refusal number 20")]
+    fn no_other_number_is_taken() {
+        let _ = nothing_or_refusal(20 << 32);
     }
 }

@@ -189,39 +189,6 @@ fn a_short_list_is_refused_and_a_short_summary_is_not() {
     assert_eq!((answer, summary), (0, [4, 5]));
 }
 
-#[test]
-fn every_reason_has_its_number_and_words() {
-    for (number, &reason) in (1..).zip(Reason::ALL) {
-        assert_eq!(reason.number(), number);
-        assert_eq!(Reason::from_number(number), Some(reason));
-    }
-    assert_eq!(Reason::ALL.len(), 19);
-    assert_eq!(Reason::from_number(0), None);
-    assert_eq!(Reason::from_number(20), None);
-    let words: std::collections::HashSet<_> = Reason::ALL.iter().map(|r| r.words()).collect();
-    assert_eq!(words.len(), Reason::ALL.len());
-}
-
-#[test]
-fn refusals_in_words() {
-    let words = |reason, place| Refusal { reason, place }.to_string();
-    assert_eq!(
-        words(Reason::NotJoined, 1),
-        "refusal 9 at post 1: a post isn't joined to the source"
-    );
-    assert_eq!(
-        words(Reason::ShortRoom, 0),
-        "refusal 18: the room for the written record is too short"
-    );
-    assert_eq!(
-        words(Reason::SameEnds, 7),
-        "refusal 6 at segment 7: both ends of a segment are the same"
-    );
-    assert!(words(Reason::CutRecord, 3).starts_with("refusal 10 at byte 3: "));
-    assert!(words(Reason::Zero, 1).starts_with("refusal 15 at leg 1: "));
-    assert!(words(Reason::TooLong, 2).starts_with("refusal 17 at both legs: "));
-}
-
 fn shipped_examples() -> impl Iterator<Item = PathBuf> {
     let folder = Path::new(env!("CARGO_MANIFEST_DIR")).join("../../examples");
     fs::read_dir(folder)

@@ -28,10 +28,6 @@ counted-sum true n f = refl
 counted-sum false zero f = refl
 counted-sum false (suc n) f = omega (arith, counted-sum false n f)
 
-counted-grows : (b : Bool) (x y : ℕ) → x ≤ y → counted b x ≤ counted b y
-counted-grows true x y h = h
-counted-grows false x y h = omega arith
-
 module _ (g : Given) where
   -- how many posts are entered t levels below v, and how often x is one of them
   unfoldable level : ℕ → ℕ → ℕ

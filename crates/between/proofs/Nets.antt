@@ -29,14 +29,6 @@ module _ (ok : ℕ → Bool) (head : Head) (a b lengths : List ℕ) where
   unfolding walkedOf walkOf walkWith givenWith
   walked-of-net = refl
 
-  -- what the third tree's code leaves is net's third tree, and net's count
-  pub third-tree-of-net : {before after : List ℕ} {laid : ℕ}
-      → ThirdTree (head .posts) (head .source) (head .p) (head .q) a b lengths (lightestOf ok (netFrom head a b lengths)) (shortestOf ok (netFrom head a b lengths)) (leastLengthsOf ok (netFrom head a b lengths)) before laid after
-      → (laid ≡ length (laidOf ok (netFrom head a b lengths))) × (after ≡ betweenOf ok (netFrom head a b lengths) ++ drop (head .posts) before)
-  unfolding laidOf betweenOf
-  third-tree-of-net {before} t =
-      (t .count ∙ ap (λ (n : Notes). length (n .laid)) walked-of-net, t .tree ∙ ap (λ (n : Notes). n .entries ++ drop (head .posts) before) walked-of-net)
-
 module _ (m : ℕ) (head : Head) (a b lengths : List ℕ) (level : Level a b lengths) (fits : length (segmentsOf a b lengths) ≤ m) (sound : NetSound every m (netFrom head a b lengths)) where
   lists : Lists (segmentsOf a b lengths) a b lengths
   lists = lists-of level

@@ -1,5 +1,6 @@
--- The children of each post, linked in rising number of their segments: the first child of a post, and after a child the next one.
--- A link is a post, and 65,535 where there is no further child. Relies on net's `child`; the code that makes and follows the links cites it.
+-- The children of each post, linked in rising number of their segments: the first child of a post, and after a child
+-- the next one. A link is a post, and 65,535 where there is no further child. Relies on net's `child`; the code that
+-- makes and follows the links cites it.
 use mathlib.Core.Path.{_≡_}
 use mathlib.Core.Bool.{true, false, not}
 use mathlib.Core.List.{List}
@@ -29,11 +30,13 @@ pub data Next (g : Given) (n v j c : ℕ) : Type 0 where
 -- the links of n posts, as far as they are made: those of v by the segments from number `done v` on
 pub record Linked (g : Given) (n : ℕ) (done : ℕ → ℕ) (first after : List ℕ) : Type 0 where
   pub firsts : (v : ℕ) → v < n → Next g n v (done v) (entry first v)
-  pub afters : (v i : ℕ) → v < n → done v ≤ i → i < length (g .segments) → child g v i ≡ true → Next g n v (suc i) (entry after (other (g .segments) i v))
+  pub afters : (v i : ℕ) → v < n → done v ≤ i → i < length (g .segments) → child g v i ≡ true
+      → Next g n v (suc i) (entry after (other (g .segments) i v))
 
 -- the links of n posts by the segments from number j on, whatever the segments' lengths
 pub record Indexed (a b walked : List ℕ) (n j : ℕ) (first after : List ℕ) : Type 0 where
-  pub links : (g : Given) (lengths : List ℕ) → Lists (g .segments) a b lengths → g .walked ≡ walked → Linked g n (λ _. j) first after
+  pub links : (g : Given) (lengths : List ℕ) → Lists (g .segments) a b lengths → g .walked ≡ walked
+      → Linked g n (λ _. j) first after
 
 -- first and after
 abbrev pub Links : Type 0

@@ -1,5 +1,6 @@
--- How the code holds what `net` speaks of: the segments as three lists side by side, the notes as two lists with the laid paths counted beside them,
--- and what the walk is given as plain lists and numbers. Relies on net's specs/Net and specs/Walk; every contract of the crate cites it.
+-- How the code holds what `net` speaks of: the segments as three lists side by side, the notes as two lists with the
+-- laid paths counted beside them, and what the walk is given as plain lists and numbers. Relies on net's specs/Net and
+-- specs/Walk; every contract of the crate cites it.
 use mathlib.Core.Path.{_≡_}
 use mathlib.Core.List.{List, []}
 use Prim.Native.Nat.{ℕ, _≤_, _<_}
@@ -63,4 +64,12 @@ pub record Small (p q : ℕ) (dist d : List ℕ) : Type 0 where
 -- everything the walk looks at, one ratio for all posts
 abbrev pub givenOf : (posts p q : ℕ) (a b lengths walked shortest dist : List ℕ) → Given
 givenOf posts p q a b lengths walked shortest dist =
-    record { segments = segmentsOf a b lengths; posts = posts; walked = walked; shortest = shortest; D = dist; p = λ _. p; q = λ _. q }
+    record {
+      segments = segmentsOf a b lengths;
+      posts = posts;
+      walked = walked;
+      shortest = shortest;
+      D = dist;
+      p = λ _. p;
+      q = λ _. q;
+    }

@@ -1,5 +1,8 @@
-// Between: the third tree, made by a walk over a tree that is given (document 01, "The three trees"): try, lay, enter and the walk itself,
-// each proved equal to its definition in `net`. Segments come as three slices side by side. Reads and stores outside a slice are harmless, so little is asked.
+// Between: the third tree, made by a walk over a tree that is given (document 01, "The three trees"): try, lay, enter
+// and the walk itself, each proved equal to its definition in `net`. Segments come as three slices side by side. Reads
+// and stores outside a slice are harmless, so little is asked.
+use net::NONE_YET;
+use net::POST_PLACES;
 ghost use mathlib.Core.Path.{_≡_};
 ghost use mathlib.Core.Bool.{cond};
 ghost use Prim.Native.Nat.{ℕ, _+_, _*_, _≤_, _<_};
@@ -13,11 +16,8 @@ ghost use Rattle.between.specs.Given.{notesOf, Shows, EndsIn, Direct, En
 ghost use Rattle.between.specs.Asked.{Walking, Walkable, walkedOf, ThirdTree};
 ghost use Rattle.between.specs.Children.{Indexed, adopted, adoptedBoth};
 
-// "none yet"
-const NONE_YET: u64 = 281_474_976_710_656;
-
 // The entry of a post that hangs by no segment, and the link where there is no further child.
-const NONE: u16 = 65_535;
+const NONE: u16 = net::NO_SEGMENT;
 
 // READS AND STORES
 // A post, a segment number or a link as an index.
@@ -86,7 +86,8 @@ fn put_entry(tree: &mut [u16], v: usize, x: u16)
 
 // The other end of segment i, which has an end at v.
 fn other_end(a: &[u16], b: &[u16], i: usize, v: usize) -> usize
-    ensures { λ r. ⌜ r ≡ cond (eqb (getD (now (a .entry)) i 0) v) (getD (now (b .entry)) i 0) (getD (now (a .entry)) i 0) ⌝ }
+    ensures { λ r. ⌜ r ≡ cond (eqb (getD (now (a .entry)) i 0) v) (getD (now (b .entry)) i 0)
+        (getD (now (a .entry)) i 0) ⌝ }
 {
     let x = wide(end_at(a, i));
     if x == v { wide(end_at(b, i)) } else { x }
@@ -102,7 +103,8 @@ fn is_less(from: u64, long: u64, to: u64) -> bool
 
 // Tries v from u by segment i, of length `long`.
 fn try_from(u: usize, i: u16, v: usize, long: u64, d: &mut [u64], entries: &mut [u16])
-    ensures { λ _. ⌜ ((g : Given) → lengthAt (g .segments) i ≡ long → notesOf (now (d .exit)) (now (entries .exit)) ≡ try g u i v (notesOf (now (d .entry)) (now (entries .entry)))) ⌝ }
+    ensures { λ _. ⌜ ((g : Given) → lengthAt (g .segments) i ≡ long → notesOf (now (d .exit)) (now (entries .exit))
+        ≡ try g u i v (notesOf (now (d .entry)) (now (entries .entry)))) ⌝ }
 {
     let from = note_at(d, u);
     let to = note_at(d, v);
@@ -112,7 +114,8 @@ fn try_from(u: usize, i: u16, v: usize, long: u64, d: &mut [u64], entries: &mut 
     }
 }
 
-// Lays the direct path of v. The recursion goes up the shortest tree and falls in `depth`, which no post's depth there exceeds.
+// Lays the direct path of v. The recursion goes up the shortest tree and falls in `depth`, which no post's depth there
+// exceeds.
 fn lay_path(
     depth: usize,
     v: usize,
@@ -124,7 +127,9 @@ fn lay_path(
     d: &mut [u64],
     entries: &mut [u16],
 )
-    ensures { λ _. ⌜ ((g : Given) → Direct g (now (a .entry)) (now (b .entry)) (now (lengths .entry)) (now (shortest .entry)) (now (dist .entry)) → notesOf (now (d .exit)) (now (entries .exit)) ≡ lay g depth v (notesOf (now (d .entry)) (now (entries .entry)))) ⌝ }
+    ensures { λ _. ⌜ ((g : Given) → Direct g (now (a .entry)) (now (b .entry)) (now (lengths .entry))
+        (now (shortest .entry)) (now (dist .entry)) → notesOf (now (d .exit)) (now (entries .exit))
+        ≡ lay g depth v (notesOf (now (d .entry)) (now (entries .entry)))) ⌝ }
 {
     if depth == 0 {
         return;
@@ -161,7 +166,10 @@ fn enter_post(
     entries: &mut [u16],
 ) -> u32
     requires { ⌜ Small p q (now dist) (now d) ⌝ }
-    ensures { λ r. ⌜ ((g : Given) → Entering g v posts p q (now (a .entry)) (now (b .entry)) (now (lengths .entry)) (now (shortest .entry)) (now (dist .entry)) → Shows (enter g v (notesOf (now (d .entry)) (now (entries .entry)))) (now (d .exit)) (now (entries .exit)) r) ⌝ }
+    ensures { λ r. ⌜ ((g : Given) → Entering g v posts p q (now (a .entry)) (now (b .entry)) (now (lengths .entry))
+        (now (shortest .entry)) (now (dist .entry))
+        → Shows (enter g v (notesOf (now (d .entry)) (now (entries .entry))))
+        (now (d .exit)) (now (entries .exit)) r) ⌝ }
 {
     if is_over(p, q, note_at(d, v), note_at(dist, v)) {
         lay_path(posts, v, a, b, lengths, shortest, dist, d, entries);
@@ -184,7 +192,8 @@ fn clear(tree: &mut [u16])
 
 // c becomes the first child of v, if it hangs by segment i.
 fn adopt(i: usize, v: u16, c: u16, walked: &[u16], first: &mut [u16], after: &mut [u16])
-    ensures { λ _. ⌜ (now (first .exit), now (after .exit)) ≡ adopted i v c (now (walked .entry)) (now (first .entry), now (after .entry)) ⌝ }
+    ensures { λ _. ⌜ (now (first .exit), now (after .exit)) ≡ adopted i v c (now (walked .entry))
+        (now (first .entry), now (after .entry)) ⌝ }
 {
     if wide(entry_at(walked, wide(c))) == i {
         let next = entry_at(first, wide(v));
@@ -195,7 +204,8 @@ fn adopt(i: usize, v: u16, c: u16, walked: &[u16], first: &mut [u16], after: &mu
 
 // Each end of segment i adopts the other, if that hangs by it.
 fn adopt_both(i: usize, x: u16, y: u16, walked: &[u16], first: &mut [u16], after: &mut [u16])
-    ensures { λ _. ⌜ (now (first .exit), now (after .exit)) ≡ adoptedBoth i x y (now (walked .entry)) (now (first .entry), now (after .entry)) ⌝ }
+    ensures { λ _. ⌜ (now (first .exit), now (after .exit)) ≡ adoptedBoth i x y (now (walked .entry))
+        (now (first .entry), now (after .entry)) ⌝ }
 {
     adopt(i, x, y, walked, first, after);
     if x != y {
@@ -206,7 +216,8 @@ fn adopt_both(i: usize, x: u16, y: u16, walked: &[u16], first: &mut [u16], after
 // Links the children of every post in the tree `walked`: one look at each segment, from the highest number down.
 fn link_children(a: &[u16], b: &[u16], walked: &[u16], first: &mut [u16], after: &mut [u16])
     requires { ⌜ EndsIn (length (now first)) (now a) (now b) × (length (now first) ≤ length (now after)) ⌝ }
-    ensures { λ _. ⌜ Indexed (now (a .entry)) (now (b .entry)) (now (walked .entry)) (length (now (first .entry))) 0 (now (first .exit)) (now (after .exit)) ⌝ }
+    ensures { λ _. ⌜ Indexed (now (a .entry)) (now (b .entry)) (now (walked .entry)) (length (now (first .entry))) 0
+        (now (first .exit)) (now (after .exit)) ⌝ }
 {
     clear(first);
     let mut i = a.len();
@@ -235,8 +246,11 @@ fn walk_from(
     d: &mut [u64],
     entries: &mut [u16],
 ) -> u32
-    requires { ⌜ Walking left v posts p q (now a) (now b) (now lengths) (now walked) (now shortest) (now dist) (now first) (now after) (now d) (now entries) ⌝ }
-    ensures { λ r. ⌜ Shows (walk (givenOf posts p q (now (a .entry)) (now (b .entry)) (now (lengths .entry)) (now (walked .entry)) (now (shortest .entry)) (now (dist .entry))) left v (notesOf (now (d .entry)) (now (entries .entry)))) (now (d .exit)) (now (entries .exit)) r ⌝ }
+    requires { ⌜ Walking left v posts p q (now a) (now b) (now lengths) (now walked) (now shortest) (now dist)
+        (now first) (now after) (now d) (now entries) ⌝ }
+    ensures { λ r. ⌜ Shows (walk (givenOf posts p q (now (a .entry)) (now (b .entry)) (now (lengths .entry))
+        (now (walked .entry)) (now (shortest .entry)) (now (dist .entry))) left v
+        (notesOf (now (d .entry)) (now (entries .entry)))) (now (d .exit)) (now (entries .exit)) r ⌝ }
 {
     if left == 0 {
         return 0;
@@ -289,7 +303,8 @@ fn start_notes(source: usize, d: &mut [u64])
     }
 }
 
-// The whole walk, over lists of one entry for each post: the children are linked, the notes are set to the start, and the source is walked.
+// The whole walk, over lists of one entry for each post: the children are linked, the notes are set to the start, and
+// the source is walked.
 fn walk_net(
     posts: usize,
     source: usize,
@@ -306,8 +321,10 @@ fn walk_net(
     d: &mut [u64],
     entries: &mut [u16],
 ) -> u32
-    requires { ⌜ Walkable posts source p q (now a) (now b) (now lengths) (now dist) × (length (now first) ≡ posts) × (length (now after) ≡ posts) × (length (now d) ≡ posts) × (length (now entries) ≡ posts) ⌝ }
-    ensures { λ r. ⌜ Shows (walkedOf posts source p q (now (a .entry)) (now (b .entry)) (now (lengths .entry)) (now (walked .entry)) (now (shortest .entry)) (now (dist .entry))) (now (d .exit)) (now (entries .exit)) r ⌝ }
+    requires { ⌜ Walkable posts source p q (now a) (now b) (now lengths) (now dist) × (length (now first) ≡ posts)
+        × (length (now after) ≡ posts) × (length (now d) ≡ posts) × (length (now entries) ≡ posts) ⌝ }
+    ensures { λ r. ⌜ Shows (walkedOf posts source p q (now (a .entry)) (now (b .entry)) (now (lengths .entry))
+        (now (walked .entry)) (now (shortest .entry)) (now (dist .entry))) (now (d .exit)) (now (entries .exit)) r ⌝ }
 {
     link_children(a, b, walked, first, after);
     start_notes(source, d);
@@ -331,8 +348,8 @@ fn walk_net(
     )
 }
 
-// The third tree of a net, by a walk over the tree `walked` from the source: puts its entries into the lent list, and answers how many direct paths were
-// laid. Entries beyond the post count stay as they were.
+// The third tree of a net, by a walk over the tree `walked` from the source: puts its entries into the lent list, and
+// answers how many direct paths were laid. Entries beyond the post count stay as they were.
 pub fn third_tree(
     posts: usize,
     source: usize,
@@ -347,11 +364,13 @@ pub fn third_tree(
     entries: &mut [u16],
 ) -> u32
     requires { ⌜ Walkable posts source p q (now a) (now b) (now lengths) (now dist) × (posts ≤ length (now entries)) ⌝ }
-    ensures { λ r. ⌜ ThirdTree posts source p q (now (a .entry)) (now (b .entry)) (now (lengths .entry)) (now (walked .entry)) (now (shortest .entry)) (now (dist .entry)) (now (entries .entry)) r (now (entries .exit)) ⌝ }
+    ensures walked { λ r. ⌜ ThirdTree posts source p q (now (a .entry)) (now (b .entry)) (now (lengths .entry))
+        (now (walked .entry)) (now (shortest .entry)) (now (dist .entry)) (now (entries .entry)) r (now (entries .exit))
+        ⌝ }
 {
-    let mut first = [0u16; 256];
-    let mut after = [0u16; 256];
-    let mut d = [0u64; 256];
+    let mut first = [0u16; POST_PLACES];
+    let mut after = [0u16; POST_PLACES];
+    let mut d = [0u64; POST_PLACES];
     walk_net(
         posts,
         source,

@@ -1,8 +1,8 @@
--- The laws of `drawn`. From numbers to bits: Zeros, Measured, Fields, Bits. What the definitions say: Rules, Lengths, Examples.
+-- The laws of `drawn`. From numbers to bits: Zeros, Measured, Fields, Bits. What the definitions say: Rules, Lengths, Worked.
 pub mod Zeros
 pub mod Measured
 pub mod Fields
 pub mod Bits
 pub mod Rules
 pub mod Lengths
-pub mod Examples
+pub mod Worked

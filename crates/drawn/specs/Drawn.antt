@@ -1,6 +1,6 @@
 -- What a drawn run comes to, by the values of its floats. Definitions only: the contracts of `drawn` cite `drawnOf`.
--- A finite float is ±m * 2 ^ e, and 2 ^ e is the fraction up e / down e (`lib.Ieee`). So in sixteenths of a millimetre it is
--- ±16 * m * up e / down e, a fraction of whole numbers: no bits, and nothing is rounded.
+-- A finite float is ±m * 2 ^ e, and 2 ^ e is the fraction up e / down e (`lib.Ieee`). So in sixteenths of a millimetre
+-- it is ±16 * m * up e / down e, a fraction of whole numbers: no bits, and nothing is rounded.
 -- `specs/Rules.antt` says the same as rules, and `specs/Says.antt` reads an answer as document 01's number and place.
 use Prim.Native.Nat.{ℕ, _+_, _*_, _/_, _%_}
 use mathlib.Core.Bool.{Bool, _&&_, cond}

@@ -1,6 +1,6 @@
 -- Document 01's rules for a drawn run, one constructor a rule, over the values of its floats. Definitions only.
--- `proofs/Rules.antt` proves that every run has an answer by these rules (`drawn-answers`), and that it has no other (`drawn-only`):
--- they say what `drawnOf`, which the contract cites, computes.
+-- `proofs/Rules.antt` proves that every run has an answer by these rules (`drawn-answers`), and that it has no other
+-- (`drawn-only`): they say what `drawnOf`, which the contract cites, computes.
 use mathlib.Core.Path.{_≡_}
 use mathlib.Core.Bool.{Bool, true, false}
 use Prim.Native.Nat.{ℕ, _+_, _*_, _≤_, _<_}
@@ -37,11 +37,14 @@ pub data Answers : Run → Says → Type 0 where
   straight : {x : Float} {s : Says} → Means 0 x s → Answers (Straight x) s
   -- "or as a corner, with two legs": place "0, second leg 1"
   first-refused : {x y : Float} {n p : ℕ} → Means 0 x (refused n p) → Answers (Corner x y) (refused n p)
-  second-refused : {x y : Float} {k n p : ℕ} → Means 0 x (sixteenths k) → Means 1 y (refused n p) → Answers (Corner x y) (refused n p)
+  second-refused : {x y : Float} {k n p : ℕ} → Means 0 x (sixteenths k) → Means 1 y (refused n p)
+      → Answers (Corner x y) (refused n p)
   -- 17: "above 65,535.9375 mm .., or the legs together (place 2)"
-  together : {x y : Float} {k l : ℕ} → Means 0 x (sixteenths k) → Means 1 y (sixteenths l) → most < k + l → Answers (Corner x y) (refused 17 2)
+  together : {x y : Float} {k l : ℕ} → Means 0 x (sixteenths k) → Means 1 y (sixteenths l) → most < k + l
+      → Answers (Corner x y) (refused 17 2)
   -- "or 16 times each leg, added as whole numbers"
-  corner : {x y : Float} {k l : ℕ} → Means 0 x (sixteenths k) → Means 1 y (sixteenths l) → k + l ≤ most → Answers (Corner x y) (sixteenths (k + l))
+  corner : {x y : Float} {k l : ℕ} → Means 0 x (sixteenths k) → Means 1 y (sixteenths l) → k + l ≤ most
+      → Answers (Corner x y) (sixteenths (k + l))
 
 -- x is +m * 2 ^ e millimetres and these are k sixteenths, 1 to 1,048,575
 pub record Long (x : Float) (k : ℕ) : Type 0 where

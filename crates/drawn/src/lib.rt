@@ -49,7 +49,7 @@ const NO_MULTIPLE: u32 = 16;
 const TOO_LONG: u32 = 17;
 
 // 65,535.9375 mm in sixteenths.
-const MOST: u64 = 1_048_575;
+const MOST: u64 = net::LONGEST as u64;
 
 // The sign of an f64. Minus zero is the sign alone; what is below zero is more.
 const SIGN: u64 = 0x8000_0000_0000_0000;
@@ -155,7 +155,7 @@ fn corner(first: Leg, second: Leg) -> Answer
 
 // The length of a drawn run in sixteenths, or its refusal.
 pub fn drawn(run: Run) -> Answer
-    ensures { λ r. ⌜ r ≡ drawnOf run ⌝ }
+    ensures drawn { λ r. ⌜ r ≡ drawnOf run ⌝ }
 {
     match run {
         Run::Straight(x) => straight(leg_of(x)),

@@ -1,5 +1,6 @@
--- What one segment does to the entries of a tree list, where it is looked at in its turn: a post that hangs by none hangs by it if it fits.
--- d gives the note of a post. Rests on `Lists` and on `net`'s words; the contracts of `hook` and `hook_both` cite it.
+-- What one segment does to the entries of a tree list, where it is looked at in its turn: a post that hangs by none
+-- hangs by it if it fits. d gives the note of a post. Rests on `Lists` and on `net`'s words; the contracts of `hook`
+-- and `hook_both` cite it.
 use mathlib.Core.Path.{_≡_}
 use mathlib.Core.Bool.{Bool, _&&_, cond, _||_}
 use mathlib.Core.List.{List}

@@ -1,4 +1,5 @@
--- What the contracts of this crate cite beside the definitions of `net`; `shortest` cites `Lists` too, and `looms` `Paths`.
+-- What the contracts of this crate cite beside the definitions of `net`; `shortest` cites `Lists` too, and `building`
+-- `Paths`.
 pub mod Lists
 pub mod Hooks
 pub mod Paths

@@ -1,5 +1,6 @@
--- How the code's lists are read: flags as a test on segment numbers, numbers as a function, three lists side by side as segments; and what is asked of them.
--- Also what `fill` does to a list. Rests on `net`'s words; `shortest` and the crates above it cite it too.
+-- How the code's lists are read: flags as a test on segment numbers, numbers as a function, three lists side by side as
+-- segments; and what is asked of them. Also what `fill` does to a list. Rests on `net`'s words; `shortest` and the
+-- crates above it cite it too.
 use mathlib.Core.Path.{_≡_}
 use mathlib.Core.Bool.{Bool, true, false}
 use mathlib.Core.List.{List}

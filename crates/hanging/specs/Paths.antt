@@ -1,5 +1,5 @@
--- What is asked of a tree list whose paths are worked out each once, and what a list of paths holds meanwhile. The contracts of `paths_of` and of the
--- functions below it cite it. Rests on `Lists` and on `net`'s words.
+-- What is asked of a tree list whose paths are worked out each once, and what a list of paths holds meanwhile. The
+-- contracts of `paths_of` and of the functions below it cite it. Rests on `Lists` and on `net`'s words.
 use mathlib.Core.Path.{_≡_}
 use mathlib.Core.Bool.{cond}
 use mathlib.Core.List.{List}
@@ -33,7 +33,8 @@ module _ (segs : List Segment) (n : ℕ) (t : List ℕ) where
 
   -- what stands for a post is its path, or that it isn't known yet; that of a post that hangs by none is known
   pub record Known (paths : List ℕ) : Type 0 where
-    pub each : (v : ℕ) → v < n → (note paths v ≡ pathIn segs n t v) ⊎ ((note paths v ≡ unknown) × (entry t v ≡ noSegment → ⊥))
+    pub each : (v : ℕ) → v < n → (note paths v ≡ pathIn segs n t v)
+        ⊎ ((note paths v ≡ unknown) × (entry t v ≡ noSegment → ⊥))
 
   -- the path of v is known now, those that were stay so, and behind the posts nothing changes
   pub record Learnt (v : ℕ) (before after : List ℕ) : Type 0 where

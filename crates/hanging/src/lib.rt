@@ -1,6 +1,8 @@
-// Hanging posts by least lengths that are given, and the measures of a tree list: its whole length, the path of a post or of each, the radius.
-// Each is proved equal to the definition of `net`. Segments come as slices side by side: two ends, what a segment counts for (its length, or 1), and
-// whether it is present. Relies on `net` alone. Below `shortest`, which finds the least lengths and reads and fills its lists by the functions here.
+// Hanging posts by least lengths that are given, and the measures of a tree list: its whole length, the path of a post
+// or of each, the radius. Each is proved equal to the definition of `net`. Segments come as slices side by side: two
+// ends, what a segment counts for (its length, or 1), and whether it is present. Relies on `net` alone. Below
+// `shortest`, which finds the least lengths and reads and fills its lists by the functions here.
+use net::plain::wide;
 ghost use mathlib.Core.Path.{_≡_};
 ghost use mathlib.Core.Bool.{cond};
 ghost use mathlib.Core.List.{List, _++_};
@@ -9,6 +11,7 @@ ghost use lib.ListN.{length, getD, take, drop};
 ghost use lib.Dec.{eqb};
 ghost use Rattle.net.specs.Words.{noSegment, tab, largest};
 ghost use Rattle.net.specs.Net.{mostPosts, mostSegments, segmentsOf};
+ghost use Rattle.net.specs.Ready.{segmentsBy};
 ghost use Rattle.net.specs.Trees.{noneYet, hung, whole, pathIn, radius};
 ghost use Rattle.net.specs.declared.Segment.{Segment};
 ghost use Rattle.hanging.specs.Lists.{flag, note, Filled, Short, Sides, Low};
@@ -16,27 +19,20 @@ ghost use Rattle.hanging.specs.Hooks.{Hooked, Hooks};
 ghost use Rattle.hanging.specs.Paths.{firstPath, Known, Learnt, Listed};
 
 // The entry of a post that hangs by no segment.
-pub const NO_SEGMENT: u16 = 65535;
+pub const NO_SEGMENT: u16 = net::NO_SEGMENT;
 
 // READING. What a list of u16 says at i, and 0 behind its end.
 pub fn at16(list: &[u16], i: usize) -> usize
-    ensures { λ r. ⌜ (r ≡ getD (now (list .entry)) i 0) × (r < 65536) ⌝ }
+    ensures read { λ r. ⌜ (r ≡ getD (now (list .entry)) i 0) × (r < 65536) ⌝ }
 {
     if i < list.len() { list[i] as usize } else { 0 }
 }
 
 // What a list of u32 says at i, and 0 behind its end.
 pub fn at32(list: &[u32], i: usize) -> u32
-    ensures { λ r. ⌜ r ≡ getD (now (list .entry)) i 0 ⌝ }
+    ensures read { λ r. ⌜ r ≡ getD (now (list .entry)) i 0 ⌝ }
 {
     if i < list.len() { list[i] } else { 0 }
-}
-
-// The same number, where sums of notes are made.
-pub fn wide(x: u32) -> u64
-    ensures { λ r. ⌜ (r ≡ x) × (r < 4294967296) ⌝ }
-{
-    x as u64
 }
 
 // The entry of v among the first `posts` of a tree list, or 65,535 where there is none.
@@ -77,7 +73,7 @@ fn across(x: usize, y: usize, v: usize) -> usize
 // FILLING. e at the first `posts` entries.
 pub fn fill(posts: usize, e: u16, list: &mut [u16])
     requires { ⌜ posts ≤ length (now list) ⌝ }
-    ensures { λ _. ⌜ Filled posts e (note (now (list .entry))) (note (now (list .exit))) ⌝ }
+    ensures filled { λ _. ⌜ Filled posts e (note (now (list .entry))) (note (now (list .exit))) ⌝ }
 {
     let mut v = 0;
     while v < posts {
@@ -88,7 +84,8 @@ pub fn fill(posts: usize, e: u16, list: &mut [u16])
 
 // HANGING. v hangs by segment i if it hangs by none, and the note of u and c come to its own.
 fn hook(u: usize, v: usize, i: u16, c: u32, dist: &[u64], tree: &mut [u16])
-    requires { ⌜ (u < length (now dist)) × (v < length (now dist)) × (v < length (now tree)) × (getD (now dist) u 0 ≤ noneYet) ⌝ }
+    requires { ⌜ (u < length (now dist)) × (v < length (now dist)) × (v < length (now tree))
+        × (getD (now dist) u 0 ≤ noneYet) ⌝ }
     ensures { λ _. ⌜ Hooked u v i c (note (now (dist .entry))) (now (tree .entry)) (now (tree .exit)) ⌝ }
 {
     if dist[u] + wide(c) == dist[v] {
@@ -100,7 +97,8 @@ fn hook(u: usize, v: usize, i: u16, c: u32, dist: &[u64], tree: &mut [u16])
 
 // Each end of segment i hangs by it if it hangs by none and the segment fits.
 fn hook_both(x: usize, y: usize, i: u16, c: u32, dist: &[u64], tree: &mut [u16])
-    requires { ⌜ (x < length (now dist)) × (y < length (now dist)) × (x < length (now tree)) × (y < length (now tree)) ⌝ }
+    requires { ⌜ (x < length (now dist)) × (y < length (now dist))
+        × (x < length (now tree)) × (y < length (now tree)) ⌝ }
     requires { ⌜ (getD (now dist) x 0 ≤ noneYet) × (getD (now dist) y 0 ≤ noneYet) ⌝ }
     ensures { λ _. ⌜ Hooks x y i c (note (now (dist .entry))) (now (tree .entry)) (now (tree .exit)) ⌝ }
 {
@@ -121,7 +119,9 @@ pub fn hang(
     requires { ⌜ Sides posts (now a) (now b) (now weights) (now present) ⌝ }
     requires { ⌜ Low posts (now dist) ⌝ }
     requires { ⌜ posts ≤ length (now tree) ⌝ }
-    ensures { λ _. ⌜ now (tree .exit) ≡ hung (segmentsOf (now (a .entry)) (now (b .entry)) (now (weights .entry))) (flag (now (present .entry))) (note (now (weights .entry))) posts (take posts (now (dist .entry))) ++ drop posts (now (tree .entry)) ⌝ }
+    ensures hung { λ _. ⌜ now (tree .exit) ≡ hung (segmentsBy (a .entry) (b .entry) (weights .entry))
+        (flag (now (present .entry))) (note (now (weights .entry))) posts (take posts (now (dist .entry)))
+        ++ drop posts (now (tree .entry)) ⌝ }
 {
     fill(posts, NO_SEGMENT, tree);
     let mut i = 0;
@@ -140,12 +140,14 @@ pub fn hang(
     }
 }
 
-// MEASURES OF A TREE LIST, of which the first `posts` entries are looked at. The whole length of the tree: the entry of no segment counts for nothing, as
-// there is no segment 65,535.
+// MEASURES OF A TREE LIST, of which the first `posts` entries are looked at. The whole length of the tree: the entry of
+// no segment counts for nothing, as there is no segment 65,535.
 pub fn whole_of(posts: usize, lengths: &[u32], tree: &[u16]) -> u32
     requires { ⌜ (posts ≤ mostPosts) × (posts ≤ length (now tree)) × (length (now lengths) ≤ mostSegments) ⌝ }
     requires { ⌜ Short (now lengths) ⌝ }
-    ensures { λ r. ⌜ ((a b : List ℕ) → length a ≡ length (now (lengths .entry)) → length b ≡ length (now (lengths .entry)) → r ≡ whole (segmentsOf a b (now (lengths .entry))) posts (take posts (now (tree .entry)))) ⌝ }
+    ensures measured { λ r. ⌜ ((a b : List ℕ) → length a ≡ length (now (lengths .entry)) → length b
+        ≡ length (now (lengths .entry)) → r ≡ whole (segmentsOf a b (now (lengths .entry))) posts
+        (take posts (now (tree .entry)))) ⌝ }
 {
     let mut total = 0;
     let mut v = 0;
@@ -166,9 +168,11 @@ pub fn path_of(
     tree: &[u16],
     post: usize,
 ) -> u32
-    requires { ⌜ (posts ≤ mostPosts) × (posts ≤ length (now tree)) × (length (now b) ≡ length (now a)) × (length (now lengths) ≡ length (now a)) ⌝ }
+    requires { ⌜ (posts ≤ mostPosts) × (posts ≤ length (now tree)) × (length (now b) ≡ length (now a))
+        × (length (now lengths) ≡ length (now a)) ⌝ }
     requires { ⌜ Short (now lengths) ⌝ }
-    ensures { λ r. ⌜ r ≡ pathIn (segmentsOf (now (a .entry)) (now (b .entry)) (now (lengths .entry))) posts (take posts (now (tree .entry))) post ⌝ }
+    ensures measured { λ r. ⌜ r ≡ pathIn (segmentsBy (a .entry) (b .entry) (lengths .entry)) posts
+        (take posts (now (tree .entry))) post ⌝ }
 {
     let mut total = 0;
     let mut v = post;
@@ -218,9 +222,11 @@ fn find_path(
     paths: &[u32],
     post: usize,
 ) -> u32
-    requires { ⌜ Listed posts (now a) (now b) (now lengths) (now tree) × (posts ≤ length (now paths)) × (post < posts) ⌝ }
-    requires { ⌜ Known (segmentsOf (now a) (now b) (now lengths)) posts (take posts (now tree)) (now paths) ⌝ }
-    ensures { λ r. ⌜ r ≡ pathIn (segmentsOf (now (a .entry)) (now (b .entry)) (now (lengths .entry))) posts (take posts (now (tree .entry))) post ⌝ }
+    requires { ⌜ Listed posts (now a) (now b) (now lengths) (now tree)
+        × (posts ≤ length (now paths)) × (post < posts) ⌝ }
+    requires { ⌜ Known (segmentsBy a b lengths) posts (take posts (now tree)) (now paths) ⌝ }
+    ensures { λ r. ⌜ r ≡ pathIn (segmentsBy (a .entry) (b .entry) (lengths .entry)) posts
+        (take posts (now (tree .entry))) post ⌝ }
 {
     let mut total = 0;
     let mut v = post;
@@ -243,10 +249,12 @@ fn note_path(
     path: u32,
     paths: &mut [u32],
 )
-    requires { ⌜ Listed posts (now a) (now b) (now lengths) (now tree) × (posts ≤ length (now paths)) × (post < posts) ⌝ }
-    requires { ⌜ Known (segmentsOf (now a) (now b) (now lengths)) posts (take posts (now tree)) (now paths) ⌝ }
-    requires { ⌜ path ≡ pathIn (segmentsOf (now a) (now b) (now lengths)) posts (take posts (now tree)) post ⌝ }
-    ensures { λ _. ⌜ Learnt (segmentsOf (now (a .entry)) (now (b .entry)) (now (lengths .entry))) posts (take posts (now (tree .entry))) post (now (paths .entry)) (now (paths .exit)) ⌝ }
+    requires { ⌜ Listed posts (now a) (now b) (now lengths) (now tree)
+        × (posts ≤ length (now paths)) × (post < posts) ⌝ }
+    requires { ⌜ Known (segmentsBy a b lengths) posts (take posts (now tree)) (now paths) ⌝ }
+    requires { ⌜ path ≡ pathIn (segmentsBy a b lengths) posts (take posts (now tree)) post ⌝ }
+    ensures { λ _. ⌜ Learnt (segmentsBy (a .entry) (b .entry) (lengths .entry)) posts
+        (take posts (now (tree .entry))) post (now (paths .entry)) (now (paths .exit)) ⌝ }
 {
     let mut left = path;
     let mut v = post;
@@ -258,7 +266,8 @@ fn note_path(
     }
 }
 
-// The path of each post, at the front of a list; 0 for a post that hangs by none. Each segment of the tree is passed twice.
+// The path of each post, at the front of a list; 0 for a post that hangs by none. Each segment of the tree is passed
+// twice.
 pub fn paths_of(
     posts: usize,
     a: &[u16],
@@ -268,7 +277,9 @@ pub fn paths_of(
     paths: &mut [u32],
 )
     requires { ⌜ Listed posts (now a) (now b) (now lengths) (now tree) × (posts ≤ length (now paths)) ⌝ }
-    ensures { λ _. ⌜ now (paths .exit) ≡ tab posts (pathIn (segmentsOf (now (a .entry)) (now (b .entry)) (now (lengths .entry))) posts (take posts (now (tree .entry)))) ++ drop posts (now (paths .entry)) ⌝ }
+    ensures measured { λ _. ⌜ now (paths .exit)
+        ≡ tab posts (pathIn (segmentsBy (a .entry) (b .entry) (lengths .entry)) posts
+        (take posts (now (tree .entry)))) ++ drop posts (now (paths .entry)) ⌝ }
 {
     begin_paths(posts, tree, paths);
     let mut v = 0;
@@ -297,9 +308,10 @@ fn largest_of(list: &[u32]) -> u32
 // The longest path of the tree.
 pub fn radius_of(posts: usize, a: &[u16], b: &[u16], lengths: &[u32], tree: &[u16]) -> u32
     requires { ⌜ Listed posts (now a) (now b) (now lengths) (now tree) ⌝ }
-    ensures { λ r. ⌜ r ≡ radius (segmentsOf (now (a .entry)) (now (b .entry)) (now (lengths .entry))) posts (take posts (now (tree .entry))) ⌝ }
+    ensures measured { λ r. ⌜ r ≡ radius (segmentsBy (a .entry) (b .entry) (lengths .entry)) posts
+        (take posts (now (tree .entry))) ⌝ }
 {
-    let mut paths = [0u32; 256];
+    let mut paths = [0u32; net::POST_PLACES];
     paths_of(posts, a, b, lengths, tree, &mut paths[..posts]);
     largest_of(&paths[..posts])
 }

@@ -71,12 +71,6 @@ module _ {n : ℕ} {a b lengths : List ℕ} {present : List Bool} (fit : Fit n a
   pub fit-few : length segs ≤ noSegment
   fit-few = let h = fit .few-segments in omega (arith, fit-length)
 
-  -- the order has each segment before all after it
-  pub order-before : (p q : ℕ) → p < q → q < length lengths → before segs (getD (orderOf lengths) p 0) (getD (orderOf lengths) q 0) ≡ true
-  order-before p q h k =
-      says-before segs (getD (orderOf lengths) p 0) (getD (orderOf lengths) q 0)
-      (in-order-at (lengthAt segs) (fit-order (order-in-order lengths)) p q h (omega (arith, fit-length)))
-
 -- a segment that is there is one of the list
 there-below : (present : List Bool) (i : ℕ) → there present i ≡ true → i < length present
 there-below present i e = elim (decLt i (length present)) [

@@ -1,5 +1,6 @@
--- MARKS of the segments that belong: what passing one segment does to the parts (`Passed`), and what is marked once all are passed in order (`Marking`).
--- A net is given as lists side by side; `present` says which of its segments are there. Rests on Order, Parts and `net`'s definitions.
+-- MARKS of the segments that belong: what passing one segment does to the parts (`Passed`), and what is marked once all
+-- are passed in order (`Marking`). A net is given as lists side by side; `present` says which of its segments are
+-- there. Rests on Order, Parts and `net`'s definitions.
 use mathlib.Core.Path.{_≡_}
 use mathlib.Core.Bool.{Bool, true, false}
 use mathlib.Core.List.{List}
@@ -22,14 +23,18 @@ pub record Ends (n : ℕ) (a b : List ℕ) (present : List Bool) : Type 0 where
   pub a-in : (i : ℕ) → there present i ≡ true → getD a i 0 < n
   pub b-in : (i : ℕ) → there present i ≡ true → getD b i 0 < n
 
--- segment i is passed, and r says whether it joined two parts: it is not there; it lies within one part; it joined two, which are one now
+-- segment i is passed, and r says whether it joined two parts: it is not there; it lies within one part; it joined two,
+-- which are one now
 pub data Passed (a b : List ℕ) (present : List Bool) (i : ℕ) (old new : List ℕ) (r : Bool) : Type 0 where
   absent : there present i ≡ false → new ≡ old → r ≡ false → Passed a b present i old new r
-  within : there present i ≡ true → share old (getD a i 0) (getD b i 0) ≡ true → new ≡ old → r ≡ false → Passed a b present i old new r
-  joins : there present i ≡ true → share old (getD a i 0) (getD b i 0) ≡ false → JoinedParts old (getD a i 0) (getD b i 0) new → r ≡ true
+  within : there present i ≡ true → share old (getD a i 0) (getD b i 0) ≡ true → new ≡ old → r ≡ false
+      → Passed a b present i old new r
+  joins : there present i ≡ true → share old (getD a i 0) (getD b i 0) ≡ false
+      → JoinedParts old (getD a i 0) (getD b i 0) new → r ≡ true
       → Passed a b present i old new r
 
--- a net as lists side by side, with the ends of the segments that are there among its n posts, and numbers that fit 16 bits
+-- a net as lists side by side, with the ends of the segments that are there among its n posts, and numbers that fit 16
+-- bits
 pub record Fit (n : ℕ) (a b lengths : List ℕ) (present : List Bool) : Type 0 where
   pub few-posts : n ≤ noSegment
   pub few-segments : length lengths ≤ noSegment
@@ -39,7 +44,8 @@ pub record Fit (n : ℕ) (a b lengths : List ℕ) (present : List Bool) : Type 0
 -- the marks are those of the belonging segments, for whatever lengths the numbers are in order
 abbrev pub Marking : ℕ → List ℕ → List ℕ → List Bool → List ℕ → List Bool → Type 0
 Marking n a b present numbers marks =
-    (lengths : List ℕ) → Fit n a b lengths present → InOrder (lengthIn lengths) (length lengths) numbers → marks ≡ belonging (segmentsOf a b lengths) (there present) n
+    (lengths : List ℕ) → Fit n a b lengths present → InOrder (lengthIn lengths) (length lengths) numbers → marks
+    ≡ belonging (segmentsOf a b lengths) (there present) n
 
 -- what marking starts from: a mark for each segment, a part of its own for each post, and numbers of segments
 pub record Markable (a b : List ℕ) (present : List Bool) (numbers labels : List ℕ) (marks : List Bool) : Type 0 where

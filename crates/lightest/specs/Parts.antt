@@ -1,5 +1,5 @@
--- PARTS of a net's posts, by labels: two posts share a part where their labels are equal. Nothing is said of which number labels a part.
--- What joining two parts makes of the sharing: `JoinedParts`. Rests on nothing of ours.
+-- PARTS of a net's posts, by labels: two posts share a part where their labels are equal. Nothing is said of which
+-- number labels a part. What joining two parts makes of the sharing: `JoinedParts`. Rests on nothing of ours.
 use mathlib.Core.Path.{_≡_}
 use mathlib.Core.Bool.{Bool, true, _&&_, _||_, cond}
 use mathlib.Core.List.{List}
@@ -23,11 +23,13 @@ Below k labels = (x : ℕ) → x < length labels → getD labels x 0 < k
 unfoldable pub renamed : ℕ → ℕ → ℕ → ℕ
 renamed from to x = cond (eqb x from) to x
 
--- once u's part and v's are one, x and y share a part exactly if they did before, or one shared u's part and the other v's
+-- once u's part and v's are one, x and y share a part exactly if they did before, or one shared u's part and the other
+-- v's
 abbrev pub sharesAfter : List ℕ → ℕ → ℕ → ℕ → ℕ → Bool
 sharesAfter old u v x y = share old x y || ((share old x u && share old y v) || (share old x v && share old y u))
 
--- u's part and v's are joined: a label for each post as before, none above those before, and the posts share parts as just said
+-- u's part and v's are joined: a label for each post as before, none above those before, and the posts share parts as
+-- just said
 pub record JoinedParts (old : List ℕ) (u v : ℕ) (new : List ℕ) : Type 0 where
   pub one-each : length new ≡ length old
   pub low : (k : ℕ) → Below k old → Below k new

@@ -97,10 +97,6 @@ text-front head segments (built l s b laid) x y z u v w hx hy hz =
     )
 text-front head segments (refused r) x y z u v w hx hy hz = refl
 
--- THE EXPORTED FUNCTIONS. the bytes in front of the answer are the text
-pub put-text : {t l x : List ℕ} {r : ℕ} → Put t 0 l x r → take r x ≡ t
-put-text {t} {l} {x} {r} p = let e : length t ≡ r = omega (arith, p .behind) in rw (p .holds) (take-at t (drop (0 + length t) l) r e)
-
 -- two outcomes that `put_built` allows are equal
 pub built-unique : (head : Head) (segments : ℕ) (a : BuildAnswer) (lightest shortest between : List ℕ) {l x y : List ℕ} {r z : ℕ} →
     Put (programText head segments a lightest shortest between) 0 l x r → Put (programText head segments a lightest shortest between) 0 l y z → (r ≡ z) × (x ≡ y)

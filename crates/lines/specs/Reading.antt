@@ -1,4 +1,5 @@
--- The text read another way, for the laws in proofs/Digits and proofs/Meaning: digits read back as a number, and the entries as a plain list.
+-- The text read another way, for the laws in proofs/Digits and proofs/Meaning: digits read back as a number, and the
+-- entries as a plain list.
 use mathlib.Core.Bool.{Bool, true, _&&_}
 use mathlib.Core.List.{List, [], _∷_, _++_}
 use Prim.Native.Nat.{ℕ, suc, _+_, _-_, _*_}

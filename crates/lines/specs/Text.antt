@@ -1,5 +1,5 @@
--- What the program prints: a number as text, the lines, and all of it for a built net and for a refusal. A text is the list of its bytes, in ASCII.
--- "Every line ends with one newline." Assumes nothing.
+-- What the program prints: a number as text, the lines, and all of it for a built net and for a refusal. A text is the
+-- list of its bytes, in ASCII. "Every line ends with one newline." Assumes nothing.
 use mathlib.Core.Bool.{cond}
 use mathlib.Core.List.{List, [], _∷_, _++_}
 use Prim.Native.Nat.{ℕ, zero, suc, _+_, _/_, _%_}
@@ -56,7 +56,8 @@ ratioText p q = spaced p ++ (47 ∷ []) ++ decimal q
 
 -- "First line: posts, segments, source, ratio."
 unfoldable pub netLine : ℕ → ℕ → ℕ → ℕ → ℕ → List ℕ
-netLine posts segments source p q = netWord ++ spaced posts ++ spaced segments ++ spaced source ++ ratioText p q ++ newline
+netLine posts segments source p q = netWord ++ spaced posts ++ spaced segments ++ spaced source ++ ratioText p q
+    ++ newline
 
 -- the entry of post v, and nothing for the source
 unfoldable pub entryText : ℕ → ℕ → ℕ → List ℕ
@@ -67,9 +68,11 @@ unfoldable pub entriesText : ℕ → List ℕ → ℕ → List ℕ
 entriesText source entries zero = []
 entriesText source entries (suc v) = entriesText source entries v ++ entryText source v (getD entries v 0)
 
--- "Tree lines: length, radius, then the entries of all posts but the source in rising order." What stands behind the posts' entries is not printed.
+-- "Tree lines: length, radius, then the entries of all posts but the source in rising order." What stands behind the
+-- posts' entries is not printed.
 unfoldable pub treeLine : List ℕ → ℕ → ℕ → ℕ → ℕ → List ℕ → List ℕ
-treeLine name length radius posts source entries = name ++ spaced length ++ spaced radius ++ entriesText source entries posts ++ newline
+treeLine name length radius posts source entries = name ++ spaced length ++ spaced radius
+    ++ entriesText source entries posts ++ newline
 
 -- "Last line: count of laid paths."
 unfoldable pub laidLine : ℕ → List ℕ

@@ -1,4 +1,5 @@
--- Numbers as text, worked: the least, and the largest of 32 bits. proofs/Worked computes both. What the program prints for whole records is planner's table.
+-- Numbers as text, worked: the least, and the largest of 32 bits. proofs/Worked computes both. What the program prints
+-- for whole records is the program's table.
 use mathlib.Core.Path.{_≡_}
 use mathlib.Core.List.{[], _∷_}
 use Rattle.lines.specs.Text.{decimal}

@@ -1,15 +1,18 @@
-// What the program prints, as bytes in lent room. A function puts its text from the place `at` on, leaves all other bytes as they are and answers the
-// place behind the text. Nothing is refused: each asks that its text fits, and 8,192 bytes are room for the longest.
+// What the program prints, as bytes in lent room. A function puts its text from the place `at` on, leaves all other
+// bytes as they are and answers the place behind the text. Nothing is refused: each asks that its text fits, and 8,192
+// bytes are room for the longest.
 ghost use mathlib.Core.Path.{_≡_};
 ghost use mathlib.Core.List.{_∷_, []};
 ghost use Prim.Native.Nat.{_+_, _≤_, _<_};
 ghost use lib.ListN.{length as size};
 ghost use Rattle.net.specs.Net.{mostPosts};
 ghost use Rattle.net.specs.Building.{built};
-ghost use Rattle.lines.specs.Text.{decimal, spaced, ratioText, netLine, entryText, entriesText, treeLine, laidLine, refusedLine, programText};
+ghost use Rattle.lines.specs.Text.{decimal, spaced, ratioText, netLine, entryText, entriesText, treeLine};
+ghost use Rattle.lines.specs.Text.{laidLine, refusedLine, programText};
 ghost use Rattle.lines.specs.Putting.{Put, mostText};
 use net::Head;
 use net::Measured;
+use net::plain::number_of;
 
 // One byte.
 fn put_byte(byte: u8, out: &mut [u8], at: usize) -> usize
@@ -76,7 +79,8 @@ fn put_ratio(p: u32, q: u32, out: &mut [u8], at: usize) -> usize
 // "First line: posts, segments, source, ratio."
 fn put_net_line(head: Head, segments: u32, out: &mut [u8], at: usize) -> usize
     requires { ⌜ at + size (netLine (head .posts) segments (head .source) (head .p) (head .q)) ≤ size (now out) ⌝ }
-    ensures { λ r. ⌜ Put (netLine (head .posts) segments (head .source) (head .p) (head .q)) at (now (out .entry)) (now (out .exit)) r ⌝ }
+    ensures { λ r. ⌜ Put (netLine (head .posts) segments (head .source) (head .p) (head .q)) at (now (out .entry))
+        (now (out .exit)) r ⌝ }
 {
     let after_name = put_bytes(b"net", out, at);
     let after_posts = put_spaced(head.posts, out, after_name);
@@ -84,13 +88,6 @@ fn put_net_line(head: Head, segments: u32, out: &mut [u8], at: usize) -> usize
     let after_source = put_spaced(head.source, out, after_segments);
     let after_ratio = put_ratio(head.p, head.q, out, after_source);
     put_byte(b'\n', out, after_ratio)
-}
-
-// An entry as a number of 32 bits.
-fn wide(entry: u16) -> u32
-    ensures { λ r. ⌜ r ≡ entry ⌝ }
-{
-    entry as u32
 }
 
 // The entry of post v, and nothing for the source.
@@ -101,7 +98,7 @@ fn put_entry(source: usize, v: usize, entry: u16, out: &mut [u8], at: usize) -> 
     if v == source {
         return at;
     }
-    put_spaced(wide(entry), out, at)
+    put_spaced(number_of(entry), out, at)
 }
 
 // "the entries of all posts but the source in rising order"
@@ -129,8 +126,10 @@ fn put_tree_line(
     at: usize,
 ) -> usize
     requires { ⌜ head .posts ≤ size (now entries) ⌝ }
-    requires { ⌜ at + size (treeLine (now name) (measured .length) (measured .radius) (head .posts) (head .source) (now entries)) ≤ size (now out) ⌝ }
-    ensures { λ r. ⌜ Put (treeLine (now (name .entry)) (measured .length) (measured .radius) (head .posts) (head .source) (now (entries .entry))) at (now (out .entry)) (now (out .exit)) r ⌝ }
+    requires { ⌜ at + size (treeLine (now name) (measured .length) (measured .radius) (head .posts) (head .source)
+        (now entries)) ≤ size (now out) ⌝ }
+    ensures { λ r. ⌜ Put (treeLine (now (name .entry)) (measured .length) (measured .radius) (head .posts)
+        (head .source) (now (entries .entry))) at (now (out .entry)) (now (out .exit)) r ⌝ }
 {
     let posts = head.posts as usize;
     let source = head.source as usize;
@@ -162,8 +161,8 @@ fn put_refused_line(number: u32, place: u32, out: &mut [u8], at: usize) -> usize
     put_byte(b'\n', out, after_place)
 }
 
-// What the program prints for a built net, at the front of the room: five lines. `light`, `short` and `third` are length and radius of the three trees. The
-// answer is how many bytes the lines are.
+// What the program prints for a built net, at the front of the room: five lines. `light`, `short` and `third` are
+// length and radius of the three trees. The answer is how many bytes the lines are.
 pub fn put_built(
     head: Head,
     segments: u32,
@@ -177,9 +176,11 @@ pub fn put_built(
     out: &mut [u8],
 ) -> usize
     requires { ⌜ head .posts ≤ mostPosts ⌝ }
-    requires { ⌜ (head .posts ≤ size (now lightest)) × (head .posts ≤ size (now shortest)) × (head .posts ≤ size (now between)) ⌝ }
+    requires { ⌜ (head .posts ≤ size (now lightest)) × (head .posts ≤ size (now shortest))
+        × (head .posts ≤ size (now between)) ⌝ }
     requires { ⌜ mostText ≤ size (now out) ⌝ }
-    ensures { λ r. ⌜ Put (programText head segments (built light short third laid) (now (lightest .entry)) (now (shortest .entry)) (now (between .entry))) 0 (now (out .entry)) (now (out .exit)) r ⌝ }
+    ensures put { λ r. ⌜ Put (programText head segments (built light short third laid) (now (lightest .entry))
+        (now (shortest .entry)) (now (between .entry))) 0 (now (out .entry)) (now (out .exit)) r ⌝ }
 {
     let after_net = put_net_line(head, segments, out, 0);
     let after_lightest = put_tree_line(b"mst", light, head, lightest, out, after_net);
@@ -191,7 +192,7 @@ pub fn put_built(
 // What the program prints for a refusal, at the front of the room: one line. The answer is how many bytes it is.
 pub fn put_refused(number: u32, place: u32, out: &mut [u8]) -> usize
     requires { ⌜ mostText ≤ size (now out) ⌝ }
-    ensures { λ r. ⌜ Put (refusedLine number place) 0 (now (out .entry)) (now (out .exit)) r ⌝ }
+    ensures put { λ r. ⌜ Put (refusedLine number place) 0 (now (out .entry)) (now (out .exit)) r ⌝ }
 {
     put_refused_line(number, place, out, 0)
 }

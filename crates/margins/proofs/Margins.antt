@@ -1,8 +1,8 @@
 -- The ways out of margin: refused by 1 to 7, by 9, by 19, or worked out; and the arithmetic of a difference with its sign.
 use mathlib.Core.Path.{_≡_, refl, sym, _∙_}
 use mathlib.Core.Bool.{Bool, true, false}
-use mathlib.Core.List.{List, _++_}
-use mathlib.Core.Option.{none, some}
+use mathlib.Core.List.{List}
+use mathlib.Core.Option.{Option, none, some}
 use Prim.Native.Nat.{ℕ, zero, suc, _+_, _*_, _^_, _≤_, _<_}
 use native.Mathlib.Omega.{arith}
 use native.Mathlib.Nat.{sub-zero, add-zero, mul-le-mul}
@@ -15,14 +15,13 @@ use lib.Signed.{mag}
 use lib.ListN.{length, getD, take}
 use lib.Seq.{take-all}
 use borrow.Author.Tests.{lt-ltb, le-ltb, le-leb, lt-leb}
-use Rattle.net.specs.Net.{Net, every, segmentsOf, netOf}
-use Rattle.net.specs.Refusals.{refusal, first, headLines, netLines, postLines, checkedOf, checkOf}
+use Rattle.net.specs.Net.{Net, every, segmentsOf}
+use Rattle.net.specs.Refusals.{refusal, first, joinedLines, postLines, checkOf}
 use Rattle.net.specs.Rules.{MarginRule}
 use Rattle.net.specs.Rules as R
-use Rattle.net.specs.Trees.{noneYet, leastLengths, pathIn, marginBy}
-use Rattle.net.specs.Building.{lightestOf, shortestOf, betweenOf, treeOf, marginRefusal, marginIn, marginAnswer, marginOf}
+use Rattle.net.specs.Trees.{noneYet, pathIn, marginBy}
+use Rattle.net.specs.Building.{treeOf, joinedToSource, marginRefusal, marginIn, marginAnswer, marginOf}
 use Rattle.net.specs.declared.Head.{Head}
-use Rattle.net.specs.declared.Segment.{Segment}
 use Rattle.net.specs.declared.Refusal.{Refusal}
 use Rattle.net.specs.declared.Checked.{Checked}
 use Rattle.net.specs.declared.Checked.the-variants.{Refused as Unsound}
@@ -31,16 +30,14 @@ use Rattle.net.specs.declared.Tree.the-variants.{Lightest, Shortest, Between}
 use Rattle.net.proofs.Tables.{FirstOf, here, below, end, first-only, first-is, some-append, none-append}
 use Rattle.net.proofs.Faults.{sound-first}
 use Rattle.net.proofs.Refusals.{margin-only}
-use Rattle.net.proofs.Checks.{said-refused, check-faulty}
-use Rattle.hanging.specs.Lists.{note}
-use Rattle.shortest.specs.Notes.{LowestApart}
-use Rattle.net.proofs.Segments.{length-segments}
-use Rattle.trees.specs.Ready.{netAt, Ready, Worked}
+use Rattle.net.proofs.Checks.{check-faulty}
+use Rattle.net.specs.Ready.{netAt, Ready}
+use Rattle.net.proofs.Ready.{cut-same}
+use Rattle.trees.specs.Worked.{Worked, ThreeTrees}
 use Rattle.margins.specs.Answers.{marginAnswerOf}
 use Rattle.margins.specs.declared.MarginAnswer.{MarginAnswer}
 use Rattle.margins.specs.declared.MarginAnswer.the-variants.{Margin, Refused as Unmeasured}
 use Rattle.trees.proofs.Ready.{least-at}
-use Rattle.trees.proofs.Joined.{table-apart, table-joined}
 
 -- SIGNS. A difference of whole numbers that are not below 0
 minus-is : (a b : ℕ) → pos a -ℤ pos b ≡ subℕ a b
@@ -84,11 +81,6 @@ module _ (n : Net) (m : ℕ) (t : Tree) (post : ℕ) where
   unfolding marginOf marginAnswer
   says-worked e f = rw (← e, f)
 
-  -- 1 to 4, by the head alone
-  pub says-head : {v : Checked} {r : Refusal} → v ≡ checkedOf (first (headLines (n .head) m)) → v ≡ Unsound r → Unmeasured r ≡ marginAnswerOf (marginOf every n m t post)
-  unfolding marginRefusal netLines
-  says-head e f = says-refused (first-only (some-append _ (some-append _ (said-refused e f))))
-
 -- 19 holds, or not
 post-out : (posts post : ℕ) → posts ≤ post → FirstOf (postLines posts post) (some (refusal 19 0))
 unfolding postLines
@@ -106,36 +98,28 @@ module _ (head : Head) (a b lengths : List ℕ) (t : Tree) (post : ℕ) where
   says-faulty e f =
       says-refused _ _ t post (margin-only every _ (netAt head a b lengths) post (R.MarginRule.one-to-seven (check-faulty head (segmentsOf a b lengths) .0 (sym e ∙ f))))
 
-  module _ (r : Ready head a b lengths) {posts source apart : ℕ} (posts-is : posts ≡ head .posts) (source-is : source ≡ head .source) {d : List ℕ} (rest : List ℕ)
-      (e : d ≡ leastLengths (segmentsOf a b lengths) every posts source ++ rest) (z : LowestApart posts (note d) apart) where
+  module _ (r : Ready head a b lengths) where
     -- 9
-    pub says-apart : apart < posts → {x : MarginAnswer} → x ≡ Unmeasured (refusal 9 apart) → x ≡ marginAnswerOf (marginOf every (netAt head a b lengths) (length (segmentsOf a b lengths)) t post)
+    pub says-apart : {v : ℕ} → first (joinedLines (head .posts) (joinedToSource every (netAt head a b lengths))) ≡ some (refusal 9 v) → {x : MarginAnswer} → x ≡ Unmeasured (refusal 9 v)
+        → x ≡ marginAnswerOf (marginOf every (netAt head a b lengths) (length (segmentsOf a b lengths)) t post)
     unfolding marginRefusal
-    says-apart p f =
-        f
-        ∙ says-refused _ _ t post
-        (first-only (none-append (sound-first every _ (netAt head a b lengths) (r .sound)) (some-append _ (first-is (table-apart r posts-is source-is rest e z p)))))
+    says-apart e f =
+        f ∙ says-refused _ _ t post (first-only (none-append (sound-first every _ (netAt head a b lengths) (r .sound)) (some-append _ (first-is e))))
 
-    -- 19
-    pub says-beyond : posts ≤ apart → {v : ℕ} → v ≡ post → posts ≤ v → {x : MarginAnswer} → x ≡ Unmeasured (refusal 19 0) → x ≡ marginAnswerOf (marginOf every (netAt head a b lengths) (length (segmentsOf a b lengths)) t post)
-    unfolding marginRefusal
-    says-beyond p k q f =
-        f
-        ∙ says-refused _ _ t post
-        (first-only
-        (none-append (sound-first every _ (netAt head a b lengths) (r .sound))
-        (none-append (first-is (table-joined r posts-is source-is rest e z p)) (post-out (head .posts) post (omega arith)))))
+    -- every post is joined
+    module _ (e : first (joinedLines (head .posts) (joinedToSource every (netAt head a b lengths))) ≡ none) where
+      -- 19, or nothing
+      post-left : {o : Option Refusal} → FirstOf (postLines (head .posts) post) o → o ≡ marginRefusal every (netAt head a b lengths) (length (segmentsOf a b lengths)) post
+      unfolding marginRefusal
+      post-left f = first-only (none-append (sound-first every _ (netAt head a b lengths) (r .sound)) (none-append (first-is e) f))
 
-    -- nothing refuses it
-    pub says-margin : posts ≤ apart → {v : ℕ} → v ≡ post → v < posts → {y : ℤ} → y ≡ marginIn every (netAt head a b lengths) t v
-        → Margin y ≡ marginAnswerOf (marginOf every (netAt head a b lengths) (length (segmentsOf a b lengths)) t post)
-    unfolding marginRefusal
-    says-margin p k q f =
-        says-worked _ _ t post
-        (first-only
-        (none-append (sound-first every _ (netAt head a b lengths) (r .sound))
-        (none-append (first-is (table-joined r posts-is source-is rest e z p)) (post-in (head .posts) post (omega arith)))))
-        (rw k at f)
+      pub says-beyond : head .posts ≤ post → {x : MarginAnswer} → x ≡ Unmeasured (refusal 19 0)
+          → x ≡ marginAnswerOf (marginOf every (netAt head a b lengths) (length (segmentsOf a b lengths)) t post)
+      says-beyond h f = f ∙ says-refused _ _ t post (post-left (post-out (head .posts) post h))
+
+      pub says-margin : post < head .posts → {v : ℕ} → v ≡ post → (y : ℤ) → mag y < 2 ^ 63 → y ≡ marginIn every (netAt head a b lengths) t v
+          → Margin (toZ w64 (ofZ w64 y)) ≡ marginAnswerOf (marginOf every (netAt head a b lengths) (length (segmentsOf a b lengths)) t post)
+      says-margin h k y fits f = says-worked _ _ t post (post-left (post-in (head .posts) post h)) (back y fits ∙ (rw k at f))
 
 -- THE MARGIN ITSELF, from a least length and a path
 module _ {head : Head} {a b lengths : List ℕ} (r : Ready head a b lengths) where
@@ -150,27 +134,22 @@ module _ {head : Head} {a b lengths : List ℕ} (r : Ready head a b lengths) whe
     unfolding marginIn
     margin-of t e f = f ∙ rw (e, least-at r w post h)
 
--- a path in a tree that is another, and in the tree that is named
-pub path-same : (segs : List Segment) (posts post : ℕ) {x : ℕ} {t u : List ℕ} → t ≡ u → x ≡ pathIn segs posts t post → x ≡ pathIn segs posts u post
-path-same segs posts post e f = rw e at f
-
-module _ (n : Net) (post : ℕ) {t : Tree} {x : ℕ} where
-  pub in-lightest : t ≡ Lightest → x ≡ pathIn (n .segments) (n .head .posts) (lightestOf every n) post → x ≡ pathIn (n .segments) (n .head .posts) (treeOf every n t) post
+-- a path in the tree that is named
+module _ {n : Net} {light short third : List ℕ} (trees : ThreeTrees n light short third) (post : ℕ) {t : Tree} {x : ℕ} where
+  pub in-lightest : t ≡ Lightest → x ≡ pathIn (n .segments) (n .head .posts) light post → x ≡ pathIn (n .segments) (n .head .posts) (treeOf every n t) post
   unfolding treeOf
-  in-lightest e f = rw e f
+  in-lightest e f = rw e (rw (trees .light-is) at f)
 
-  pub in-shortest : t ≡ Shortest → {short : List ℕ} → short ≡ shortestOf every n → x ≡ pathIn (n .segments) (n .head .posts) short post → x ≡ pathIn (n .segments) (n .head .posts) (treeOf every n t) post
+  pub in-shortest : t ≡ Shortest → x ≡ pathIn (n .segments) (n .head .posts) short post → x ≡ pathIn (n .segments) (n .head .posts) (treeOf every n t) post
   unfolding treeOf
-  in-shortest e g f = rw e (rw g at f)
+  in-shortest e f = rw e (rw (trees .short-is) at f)
 
-  pub in-between : t ≡ Between → x ≡ pathIn (n .segments) (n .head .posts) (betweenOf every n) post → x ≡ pathIn (n .segments) (n .head .posts) (treeOf every n t) post
+  pub in-between : t ≡ Between → x ≡ pathIn (n .segments) (n .head .posts) third post → x ≡ pathIn (n .segments) (n .head .posts) (treeOf every n t) post
   unfolding treeOf
-  in-between e f = rw e f
+  in-between e f = rw e (rw (trees .third-is) at f)
 
--- THE ARRAY: the three lists hold its first segments
-pub says-array : (head : Head) (count : ℕ) (segments : List Segment) (t : Tree) (post : ℕ) (a b lengths : List ℕ)
-    → segmentsOf a b lengths ≡ take count segments → length a ≡ count → length b ≡ count → length lengths ≡ count → {x : MarginAnswer}
-    → x ≡ marginAnswerOf (marginOf every (netAt head a b lengths) (length (segmentsOf a b lengths)) t post) → x ≡ marginAnswerOf (marginOf every (netOf head count segments) count t post)
-says-array head count segments t post a b lengths e i j k z =
-    let c : length (segmentsOf a b lengths) ≡ count = length-segments a b lengths (j ∙ sym i) (k ∙ sym i) ∙ i in
-    rw e at (rw c at z)
+-- THREE LISTS OF ANY LENGTHS stand for their common front
+pub says-cut : (head : Head) (a b lengths : List ℕ) (t : Tree) (post : ℕ) {m : ℕ} → m ≡ length (segmentsOf a b lengths) → {x : MarginAnswer}
+    → x ≡ marginAnswerOf (marginOf every (netAt head (take m a) (take m b) (take m lengths)) (length (segmentsOf (take m a) (take m b) (take m lengths))) t post)
+    → x ≡ marginAnswerOf (marginOf every (netAt head a b lengths) (length (segmentsOf a b lengths)) t post)
+says-cut head a b lengths t post e z = rw (cut-same a b lengths e) at z

@@ -1,12 +1,12 @@
 -- A list that is overwritten from the front: its first i entries are those of `g`, which it is to be, and the others those of `l`, which it was.
 -- Any loop that stores at i = 0, 1, .. is one of these (`Over`). Rests on nothing of ours.
-use mathlib.Core.Path.{_≡_, refl, ap, _∙_}
+use mathlib.Core.Path.{_≡_, refl, sym, ap, _∙_}
 use mathlib.Core.List.{List, [], _∷_, _++_, append-nil}
 use Prim.Native.Nat.{ℕ, zero, suc, _+_, _<_, _≤_}
 use native.Mathlib.Numerals.{add-one}
 use native.Mathlib.Omega.{arith}
-use lib.ListN.{length, getD, take, drop, set, length-set, drop-of-length-le}
-use lib.Seq.{take-all}
+use lib.ListN.{length, getD, take, drop, set, length-set, length-append, length-drop, drop-of-length-le, List·getD-append}
+use lib.Seq.{take-all, take-at}
 
 -- g as far as i, and l from there on
 abbrev pub blend : ℕ → List ℕ → List ℕ → List ℕ
@@ -74,3 +74,24 @@ module _ {l g x : List ℕ} {i : ℕ} (o : Over l g x i) where
   -- after the loop
   pub over-all : length x ≤ i → x ≡ g
   over-all h = o .is ∙ blend-all i g l (o .goal) (let e = o .same in omega arith)
+
+-- A FRONT: i entries of t stand in x, which was l; at the end x begins with t, and goes on as l did
+pub record Put (t l x : List ℕ) (i : ℕ) : Type 0 where
+  pub upto : i ≤ length t
+  pub fits : length t ≤ length l
+  pub same : length x ≡ length l
+  pub over : Over l (t ++ drop (length t) l) x i
+
+pub put-none : (t l : List ℕ) → length t ≤ length l → Put t l l 0
+put-none t l h =
+    record { upto = omega arith; fits = h; same = refl; over = over-none l (t ++ drop (length t) l) (simp (length-append, length-drop) (omega arith)) }
+
+pub put-more : {t l x : List ℕ} {i : ℕ} → Put t l x i → i < length t → Put t l (set x i (getD t i 0)) (i + 1)
+put-more {t} {l} {x} {i} p h =
+    let o = over-more (p .over) (omega (arith, p .fits)) (getD t i 0) (sym (List·getD-append t (drop (length t) l) 0 i h)) in
+    record { upto = omega arith; fits = p .fits; same = o .same; over = o }
+
+pub put-all : {t l x : List ℕ} {i : ℕ} → Put t l x i → length t ≤ i → x ≡ t ++ drop (length t) l
+put-all {t} {l} {x} {i} p h =
+    let e : i ≡ length t = omega (arith, p .upto) in
+    (rw e at (p .over .is)) ∙ ap (λ (z : List ℕ). z ++ drop (length t) l) (take-at t (drop (length t) l) (length t) refl)

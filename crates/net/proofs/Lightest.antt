@@ -108,10 +108,6 @@ module _ (segs : List Segment) (ok : ℕ → Bool) (n : ℕ) (inside : Inside se
       let c = depth-chain (parent segs (lightest segs ok n s) v) (omega (arith, z .adds, depth-most v h)) in
       widen segs (λ i k. at-ok i) (join segs c (along segs (z .leads) (z .there)))
 
-  -- a post without one hangs by no segment
-  pub light-none : (v : ℕ) → v < n → (Chain segs ok s v → ⊥) → entry (lightest segs ok n s) v ≡ noSegment
-  light-none v h f = elim (ℕ-discrete (entry (lightest segs ok n s) v) noSegment) [ yes e ↦ e | no e ↦ absurd (f (light-route v h e)) ]
-
   -- CLIMBING, by entries that all pass a test
   module _ (P : ℕ → Bool) (entries : (v : ℕ) → v < n → (entry (lightest segs ok n s) v ≡ noSegment → ⊥) → P (entry (lightest segs ok n s) v) ≡ true) where
     climbs : (k v : ℕ) → v < n → depth segs ok n s v < k → depth segs ok n s v < noneYet → (long : ℕ) × Climb segs P (lightest segs ok n s) s v long

@@ -40,10 +40,6 @@ module _ (segs : List Segment) (ok : ℕ → Bool) (n s : ℕ) (inside : Inside 
   unfolding leastLengths hangingWeight
   hung-by-lengths = refl
 
-  weight-is : (i : ℕ) → hangingWeight segs i ≡ lengthAt segs i
-  unfolding hangingWeight
-  weight-is i = refl
-
   pub length-shortest : length (shortest segs ok n s) ≡ n
   length-shortest = rw shortest-is (length-hung segs ok (hangingWeight segs) n few by)
 

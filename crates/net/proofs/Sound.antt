@@ -211,10 +211,6 @@ module _ (ok : ℕ → Bool) (m : ℕ) (n : Net) (fits : length (n .segments) �
 
   -- EVERY POST JOINED TO THE SOURCE
   module _ (joined : AllJoined ok n) where
-    -- the segments that belong are a spanning tree
-    pub belonging-spans : SpanningTree segs ok posts s (belongsAt segs ok posts)
-    belonging-spans = lightest-spans segs ok posts inside n-small few s below joined
-
     pub lightest-tree : IsTree segs ok posts s (lightestOf ok n) (pathIn segs posts (lightestOf ok n))
     unfolding lightestOf
     lightest-tree =

@@ -8,7 +8,11 @@ use Rattle.net.specs.Building.{lightestOf, leastLengthsOf, shortestOf, g
 use Rattle.net.specs.Worked.{NetsWorked}
 
 pub nets-worked : NetsWorked
-unfolding first headLines segmentLines presentLines allSegmentLines netLines lentLines joinedLines postLines before better round least hung fewest joined hungFrom belongs belonging lightest leastLengths hangingWeight shortest pathUp pathIn radius whole marginBy atStart hangBy try lay count enter walk lightestOf leastLengthsOf shortestOf givenWith walkWith walkOf betweenOf laidOf treeOf joinedToSource buildRefusal marginRefusal measured buildAnswer buildOf listAfter afterBuild marginIn marginAnswer marginOf
+unfolding first headLines segmentLines presentLines allSegmentLines netLines lentLines joinedLines postLines before
+    better round least hung fewest joined hungFrom belongs belonging lightest leastLengths hangingWeight shortest
+    pathUp pathIn radius whole marginBy atStart hangBy try lay count enter walk lightestOf leastLengthsOf
+    shortestOf givenWith walkWith walkOf betweenOf laidOf treeOf joinedToSource buildRefusal marginRefusal
+    measured buildAnswer buildOf listAfter afterBuild marginIn marginAnswer marginOf
 nets-worked =
     record {
       a-lightest = refl;

@@ -1,5 +1,6 @@
 -- What building and margin answer, and what the lent lists hold afterwards, for every input.
--- The number of segments, m, is given beside the net: an array may hold fewer than are claimed, and 4 looks at the claim.
+-- The number of segments, m, is given beside the net: an array may hold fewer than are claimed, and 4 looks at the
+-- claim.
 use mathlib.Core.Bool.{Bool}
 use mathlib.Core.List.{List, _++_}
 use mathlib.Core.Option.{Option, none, some}
@@ -30,7 +31,15 @@ module _ (ok : ℕ → Bool) (n : Net) where
   -- the walk over the lightest tree, at a ratio for each post
   unfoldable pub givenWith : (ℕ → ℕ) → (ℕ → ℕ) → Given
   givenWith p q =
-      record { segments = n .segments; posts = n .head .posts; walked = lightestOf; shortest = shortestOf; D = leastLengthsOf; p = p; q = q }
+      record {
+        segments = n .segments;
+        posts = n .head .posts;
+        walked = lightestOf;
+        shortest = shortestOf;
+        D = leastLengthsOf;
+        p = p;
+        q = q;
+      }
 
   -- "Walk the lightest tree from the source."
   unfoldable pub walkWith : (ℕ → ℕ) → (ℕ → ℕ) → Notes
@@ -57,11 +66,13 @@ module _ (ok : ℕ → Bool) (n : Net) where
 
   -- "Building: 1, 2, 3, 4; then for each segment in turn 5, 6, 7; then 8; then 9."
   unfoldable pub buildRefusal : ℕ → Lent → Option Refusal
-  buildRefusal m lent = first (netLines ok m n ++ (lentLines (n .head .posts) lent ++ joinedLines (n .head .posts) joinedToSource))
+  buildRefusal m lent = first (netLines ok m n
+      ++ (lentLines (n .head .posts) lent ++ joinedLines (n .head .posts) joinedToSource))
 
   -- "Margin: 1 to 7, then 9, then 19."
   unfoldable pub marginRefusal : ℕ → ℕ → Option Refusal
-  marginRefusal m post = first (netLines ok m n ++ (joinedLines (n .head .posts) joinedToSource ++ postLines (n .head .posts) post))
+  marginRefusal m post = first (netLines ok m n
+      ++ (joinedLines (n .head .posts) joinedToSource ++ postLines (n .head .posts) post))
 
 -- ANSWERS. "length and radius of each tree and the count of laid paths", or a refusal
 pub data BuildAnswer : Type 0 where
@@ -89,7 +100,8 @@ module _ (ok : ℕ → Bool) (n : Net) where
   unfoldable pub buildOf : ℕ → Lent → BuildAnswer
   buildOf m lent = buildAnswer (buildRefusal ok n m lent)
 
-  -- a lent list afterwards: the tree's entries, "Entries beyond the post count stay as they were."; after a refusal "what it held before"
+  -- a lent list afterwards: the tree's entries, "Entries beyond the post count stay as they were."; after a refusal
+  -- "what it held before"
   unfoldable pub listAfter : Option Refusal → Tree → List ℕ → List ℕ
   listAfter none t l = treeOf ok n t ++ drop (n .head .posts) l
   listAfter (some r) t l = l
@@ -99,7 +111,8 @@ module _ (ok : ℕ → Bool) (n : Net) where
 
   -- "(p + q) × D minus q × path in the tree"
   unfoldable pub marginIn : Tree → ℕ → ℤ
-  marginIn t v = marginBy (n .head .p) (n .head .q) (at (leastLengthsOf ok n) v) (pathIn (n .segments) (n .head .posts) (treeOf ok n t) v)
+  marginIn t v = marginBy (n .head .p) (n .head .q) (at (leastLengthsOf ok n) v)
+      (pathIn (n .segments) (n .head .posts) (treeOf ok n t) v)
 
   unfoldable pub marginAnswer : Option Refusal → Tree → ℕ → MarginAnswer
   marginAnswer none t v = margin (marginIn t v)

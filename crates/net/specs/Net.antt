@@ -1,5 +1,6 @@
--- A net: "a number of posts, a source post, a ratio p/q and a list of segments". What a segment joins; routes and chains; sets of segments.
--- A *present* test `ok` on segment numbers picks a part of a net: all of it (`every`), the segments before one of them, the segments of a tree.
+-- A net: "a number of posts, a source post, a ratio p/q and a list of segments". What a segment joins; routes and
+-- chains; sets of segments. A *present* test `ok` on segment numbers picks a part of a net: all of it (`every`), the
+-- segments before one of them, the segments of a tree.
 use mathlib.Core.Path.{_≡_}
 use mathlib.Core.Logic.{_⊎_}
 use mathlib.Core.Bool.{Bool, true, not, _&&_, _||_, cond}
@@ -113,4 +114,5 @@ module _ (segs : List Segment) where
   -- a spanning tree: it joins all posts, and has no ring: no chain of its other segments joins the ends of one of them
   pub record SpanningTree (ok : ℕ → Bool) (n s : ℕ) (U : ℕ → Bool) : Type 0 where
     pub spans : JoinsAll ok n s U
-    pub no-ring : (i : ℕ) → i < length segs → U i ≡ true → Chain segs (λ j. U j && not (eqb j i)) ((segmentAt segs i) .a) ((segmentAt segs i) .b) → ⊥
+    pub no-ring : (i : ℕ) → i < length segs → U i ≡ true → Chain segs (λ j. U j && not (eqb j i))
+        ((segmentAt segs i) .a) ((segmentAt segs i) .b) → ⊥

@@ -1,5 +1,6 @@
--- The table of refusals that concern a net: each line a test, a number and a place, in document 01's order. The answer is the first line whose test passes.
--- `Rules` says the same line by line without tests, and proofs/Refusals joins the two.
+-- The table of refusals that concern a net: each line a test, a number and a place, in document 01's order. The answer
+-- is the first line whose test passes. `Rules` says the same line by line without tests, and proofs/Refusals joins the
+-- two.
 use mathlib.Core.Bool.{Bool, true, false, not, _||_, cond}
 use mathlib.Core.List.{List, [], _∷_, _++_}
 use mathlib.Core.Option.{Option, none, some}
@@ -54,7 +55,8 @@ presentLines false ls = []
 
 -- "then for each segment in turn 5, 6, 7"
 unfoldable pub allSegmentLines : (ℕ → Bool) → ℕ → List Segment → List Line
-allSegmentLines ok posts segs = each (length segs) (λ i ls. ls ++ presentLines (ok i) (segmentLines posts (segmentAt segs i) i)) []
+allSegmentLines ok posts segs = each (length segs)
+    (λ i ls. ls ++ presentLines (ok i) (segmentLines posts (segmentAt segs i) i)) []
 
 -- 1 to 7
 unfoldable pub netLines : (ℕ → Bool) → ℕ → Net → List Line
@@ -68,7 +70,8 @@ pub record Lent : Type 0 where
 
 -- 8
 unfoldable pub lentLines : ℕ → Lent → List Line
-lentLines posts lent = line 8 (ltb (lent .lightest) posts || ltb (lent .shortest) posts || ltb (lent .between) posts) 0 ∷ []
+lentLines posts lent = line 8 (ltb (lent .lightest) posts || ltb (lent .shortest) posts || ltb (lent .between) posts) 0
+    ∷ []
 
 -- 9: "lowest such post", so the posts in rising order; joined says of each post whether it is joined to the source
 unfoldable pub joinedLines : ℕ → (ℕ → Bool) → List Line

@@ -1,5 +1,6 @@
--- The refusals of a net as rules, one constructor for each number, without tests and in document 01's order: each says that nothing before it holds.
--- proofs/Refusals proves that every net has an answer by these rules, that it has no other, and that the table of `Refusals` gives it.
+-- The refusals of a net as rules, one constructor for each number, without tests and in document 01's order: each says
+-- that nothing before it holds. proofs/Refusals proves that every net has an answer by these rules, that it has no
+-- other, and that the table of `Refusals` gives it.
 use mathlib.Core.Path.{_≡_}
 use mathlib.Core.Logic.{_⊎_}
 use mathlib.Core.Bool.{Bool, true}
@@ -41,7 +42,8 @@ pub record SegmentSound (posts : ℕ) (s : Segment) : Type 0 where
 pub data HeadRule (h : Head) (m : ℕ) : Option Refusal → Type 0 where
   one : (h .posts ≡ 0) ⊎ (mostPosts < h .posts) → HeadRule h m (some (refusal 1 0))
   two : PostsSound h → h .posts ≤ h .source → HeadRule h m (some (refusal 2 0))
-  three : PostsSound h → h .source < h .posts → (h .q ≡ 0) ⊎ ((mostRatio < h .p) ⊎ (mostRatio < h .q)) → HeadRule h m (some (refusal 3 0))
+  three : PostsSound h → h .source < h .posts → (h .q ≡ 0) ⊎ ((mostRatio < h .p) ⊎ (mostRatio < h .q))
+      → HeadRule h m (some (refusal 3 0))
   four : HeadSound h → mostSegments < m → HeadRule h m (some (refusal 4 0))
   nothing : HeadSound h → m ≤ mostSegments → HeadRule h m none
 
@@ -49,7 +51,8 @@ pub data HeadRule (h : Head) (m : ℕ) : Option Refusal → Type 0 where
 pub data SegmentRule (posts : ℕ) (s : Segment) (i : ℕ) : Option Refusal → Type 0 where
   five : (posts ≤ s .a) ⊎ (posts ≤ s .b) → SegmentRule posts s i (some (refusal 5 i))
   six : EndsSound posts s → s .a ≡ s .b → SegmentRule posts s i (some (refusal 6 i))
-  seven : EndsSound posts s → (s .a ≡ s .b → ⊥) → (s .length ≡ 0) ⊎ (longest < s .length) → SegmentRule posts s i (some (refusal 7 i))
+  seven : EndsSound posts s → (s .a ≡ s .b → ⊥) → (s .length ≡ 0) ⊎ (longest < s .length)
+      → SegmentRule posts s i (some (refusal 7 i))
   nothing : SegmentSound posts s → SegmentRule posts s i none
 
 -- m is the number of segments
@@ -87,7 +90,8 @@ module _ (ok : ℕ → Bool) (n : Net) where
 
 -- a lent tree list has fewer entries than posts; and none has
 abbrev pub TooShort : Net → Lent → Type 0
-TooShort n lent = (lent .lightest < n .head .posts) ⊎ ((lent .shortest < n .head .posts) ⊎ (lent .between < n .head .posts))
+TooShort n lent = (lent .lightest < n .head .posts)
+    ⊎ ((lent .shortest < n .head .posts) ⊎ (lent .between < n .head .posts))
 
 pub record LongEnough (n : Net) (lent : Lent) : Type 0 where
   pub lightest-long : n .head .posts ≤ lent .lightest

@@ -1,5 +1,5 @@
--- Least lengths; the lightest and the shortest tree; what a tree list says: entries, parents, paths, radius and whole length.
--- Over a part of a net that `ok` picks and, where it matters, over what a segment counts for, `w`.
+-- Least lengths; the lightest and the shortest tree; what a tree list says: entries, parents, paths, radius and whole
+-- length. Over a part of a net that `ok` picks and, where it matters, over what a segment counts for, `w`.
 use mathlib.Core.Path.{_≡_}
 use mathlib.Core.Bool.{Bool, true, false, not, _&&_, cond}
 use mathlib.Core.List.{List}
@@ -11,7 +11,8 @@ use Rattle.net.specs.Words.{each, only, tab, counted, sum, largest, leas
 use Rattle.net.specs.Net.{segmentAt, lengthAt, touches, other, before, Leads, Route, Chain, weigh}
 use Rattle.net.specs.declared.Segment.{Segment}
 
--- "none yet", which is larger than any length, and stays so through any ratio: 1 × noneYet is greater than (10,000 + 1) × 267,386,625
+-- "none yet", which is larger than any length, and stays so through any ratio: 1 × noneYet is greater than (10,000 + 1)
+-- × 267,386,625
 abbrev pub noneYet : ℕ
 noneYet = 281474976710656
 
@@ -37,7 +38,8 @@ module _ (segs : List Segment) (ok : ℕ → Bool) (w : ℕ → ℕ) where
     pub there : ok i ≡ true
     pub leads : Leads segs i (other segs i v) v
     pub adds : at l (other segs i v) + w i ≡ at l v
-    pub lowest-fit : (j : ℕ) → j < i → Leads segs j (other segs j v) v → ok j ≡ true → at l (other segs j v) + w j ≡ at l v → ⊥
+    pub lowest-fit : (j : ℕ) → j < i → Leads segs j (other segs j v) v → ok j ≡ true → at l (other segs j v) + w j
+        ≡ at l v → ⊥
 
 -- the same computed; n is the number of posts
 module _ (segs : List Segment) (ok : ℕ → Bool) (w : ℕ → ℕ) (n : ℕ) where
@@ -110,19 +112,21 @@ module _ (segs : List Segment) (ok : ℕ → Bool) (n : ℕ) where
   unfoldable pub shortest : ℕ → List ℕ
   shortest s = hung segs ok (hangingWeight segs) n (least segs ok (hangingWeight segs) n s)
 
--- A TREE is "a list with one entry for each post: the number of the segment by which the post hangs on its parent, and 65,535 for the source".
--- What stands behind the n entries of a longer list is not looked at.
+-- A TREE is "a list with one entry for each post: the number of the segment by which the post hangs on its parent, and
+-- 65,535 for the source". What stands behind the n entries of a longer list is not looked at.
 abbrev pub entry : List ℕ → ℕ → ℕ
 entry t v = getD t v noSegment
 
 abbrev pub hangs : List ℕ → ℕ → Bool
 hangs t v = not (eqb (entry t v) noSegment)
 
--- the entries of the list t are exactly the segments that belong: each of them belongs, each that belongs where s leads is one, and no two posts have the same
+-- the entries of the list t are exactly the segments that belong: each of them belongs, each that belongs where s leads
+-- is one, and no two posts have the same
 pub record ExactlyBelonging (segs : List Segment) (ok : ℕ → Bool) (n s : ℕ) (t : List ℕ) : Type 0 where
   pub is-segment : (v : ℕ) → v < n → (entry t v ≡ noSegment → ⊥) → entry t v < length segs
   pub each-belongs : (v : ℕ) → v < n → (entry t v ≡ noSegment → ⊥) → Belongs segs ok n (entry t v)
-  pub each-hangs : (i : ℕ) → i < length segs → Belongs segs ok n i → Chain segs ok s ((segmentAt segs i) .a) → (v : ℕ) × (v < n) × (entry t v ≡ i)
+  pub each-hangs : (i : ℕ) → i < length segs → Belongs segs ok n i → Chain segs ok s ((segmentAt segs i) .a) → (v : ℕ)
+      × (v < n) × (entry t v ≡ i)
   pub different : (v x : ℕ) → v < n → x < n → (v ≡ x → ⊥) → (entry t v ≡ noSegment → ⊥) → entry t v ≡ entry t x → ⊥
 
 module _ (segs : List Segment) where
@@ -132,7 +136,8 @@ module _ (segs : List Segment) where
   -- a path of the tree t, from v up to s by entries of segments that are there, and its length
   pub data Climb (ok : ℕ → Bool) (t : List ℕ) (s : ℕ) : ℕ → ℕ → Type 0 where
     arrived : {v : ℕ} → v ≡ s → Climb ok t s v 0
-    up : {v u long : ℕ} → (v ≡ s → ⊥) → Leads segs (entry t v) u v → ok (entry t v) ≡ true → Climb ok t s u long → Climb ok t s v (lengthAt segs (entry t v) + long)
+    up : {v u long : ℕ} → (v ≡ s → ⊥) → Leads segs (entry t v) u v → ok (entry t v) ≡ true → Climb ok t s u long
+        → Climb ok t s v (lengthAt segs (entry t v) + long)
 
   -- t is a tree of n posts that reaches all of them from s
   pub record IsTree (ok : ℕ → Bool) (n s : ℕ) (t : List ℕ) (path : ℕ → ℕ) : Type 0 where

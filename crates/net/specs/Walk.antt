@@ -1,5 +1,5 @@
--- BETWEEN: the notes, try, lay, enter and walk, sentence by sentence as document 01 has them, over any tree list and any ratios.
--- `WalkRules` says the same without tests and bounds, and proofs/WalkRuled joins the two.
+-- BETWEEN: the notes, try, lay, enter and walk, sentence by sentence as document 01 has them, over any tree list and
+-- any ratios. `WalkRules` says the same without tests and bounds, and proofs/WalkRuled joins the two.
 use mathlib.Core.Bool.{Bool, _&&_, cond}
 use mathlib.Core.List.{List, [], _∷_}
 use Prim.Native.Nat.{ℕ, zero, suc, _+_, _*_}
@@ -10,7 +10,8 @@ use Rattle.net.specs.Net.{lengthAt, touches, other}
 use Rattle.net.specs.Trees.{noneYet, at, entry, parent}
 use Rattle.net.specs.declared.Segment.{Segment}
 
--- "Each post has a note d"; the segments by which the posts hang; the posts whose direct paths were laid, the last one first
+-- "Each post has a note d"; the segments by which the posts hang; the posts whose direct paths were laid, the last one
+-- first
 pub record Notes : Type 0 where
   pub d : List ℕ
   pub entries : List ℕ
@@ -33,14 +34,20 @@ atStart n s = record { d = tab n (λ v. cond (eqb v s) 0 noneYet); entries = rep
 module _ (g : Given) where
   -- v's note becomes d(u) plus the length of i, and v hangs by i
   unfoldable pub hangBy : ℕ → ℕ → ℕ → Notes → Notes
-  hangBy u i v n = record { d = set (n .d) v (at (n .d) u + lengthAt (g .segments) i); entries = set (n .entries) v i; laid = n .laid }
+  hangBy u i v n = record {
+    d = set (n .d) v (at (n .d) u + lengthAt (g .segments) i);
+    entries = set (n .entries) v i;
+    laid = n .laid;
+  }
 
-  -- "To try v from u by a segment: if d(u) plus its length is less than d(v), that becomes d(v) and v hangs by that segment; otherwise nothing changes."
+  -- "To try v from u by a segment: if d(u) plus its length is less than d(v), that becomes d(v) and v hangs by that
+  -- segment; otherwise nothing changes."
   unfoldable pub try : ℕ → ℕ → ℕ → Notes → Notes
   try u i v n = only (ltb (at (n .d) u + lengthAt (g .segments) i) (at (n .d) v)) (hangBy u i v) n
 
-  -- "Laying the direct path of v: if d(v) is greater than D(v), the direct path of its parent in the shortest tree is laid first,
-  -- and then v is tried from that parent by its entry there; if not, nothing is done." At most k segments up
+  -- "Laying the direct path of v: if d(v) is greater than D(v), the direct path of its parent in the shortest tree is
+  -- laid first, and then v is tried from that parent by its entry there; if not, nothing is done." At most k segments
+  -- up
   unfoldable pub lay : ℕ → ℕ → Notes → Notes
   lay zero v n = n
   lay (suc k) v n =

@@ -1,5 +1,6 @@
--- The words that the definitions of a net are written in: a thing done for each number below n, a thing done only where a test passes,
--- a list given by its rule, a sum, a least and a lowest. Relies on nothing of ours; every other file of specs/ stands on it.
+-- The words that the definitions of a net are written in: a thing done for each number below n, a thing done only where
+-- a test passes, a list given by its rule, a sum, a least and a lowest. Relies on nothing of ours; every other file of
+-- specs/ stands on it.
 use mathlib.Core.Bool.{Bool, true, false, _&&_}
 use mathlib.Core.List.{List, [], _∷_, _++_}
 use Prim.Native.Nat.{ℕ, zero, suc, _+_, min, max}

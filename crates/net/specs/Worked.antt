@@ -1,5 +1,6 @@
--- Document 01's nets worked by hand, and nets that tell its slips apart, as one table, a row for each statement. proofs/Worked computes all rows as one theorem,
--- and the crate `promises` joins them to the one table of all statements marked (P).
+-- Document 01's nets worked by hand, and nets that tell its slips apart, as one table, a row for each statement.
+-- proofs/Worked computes all rows as one theorem, and the crate `promises` joins them to the one table of all
+-- statements marked (P).
 use mathlib.Core.Path.{_≡_}
 use mathlib.Core.List.{List, [], _∷_}
 use mathlib.Core.Option.{none}
@@ -8,7 +9,8 @@ use lib.IntN.{pos, negsuc}
 use Rattle.net.specs.Net.{Net, every}
 use Rattle.net.specs.Refusals.{Lent, refusal, first, headLines}
 use Rattle.net.specs.Trees.{pathIn}
-use Rattle.net.specs.Building.{BuildAnswer, built, refused, MarginAnswer, margin, buildOf, afterBuild, marginOf, treeOf, walkOf}
+use Rattle.net.specs.Building.{BuildAnswer, built, refused, MarginAnswer, margin, buildOf, afterBuild, marginOf}
+use Rattle.net.specs.Building.{treeOf, walkOf}
 use Rattle.net.specs.Building as B
 use Rattle.net.specs.declared.Measured.{Measured}
 use Rattle.net.specs.declared.Segment.{Segment}
@@ -49,7 +51,8 @@ netTie = net 4 0 1 3 (seg 2 3 2 ∷ seg 0 1 3 ∷ seg 0 2 4 ∷ seg 1 3 3 ∷ []
 
 -- children in rising post number
 abbrev pub netOrder : Net
-netOrder = net 6 0 1 2 (seg 5 0 6 ∷ seg 2 1 5 ∷ seg 5 3 2 ∷ seg 3 4 2 ∷ seg 0 2 3 ∷ seg 1 3 4 ∷ seg 3 5 5 ∷ seg 5 4 3 ∷ [])
+netOrder = net 6 0 1 2 (seg 5 0 6 ∷ seg 2 1 5 ∷ seg 5 3 2 ∷ seg 3 4 2 ∷ seg 0 2 3 ∷ seg 1 3 4 ∷ seg 3 5 5 ∷ seg 5 4 3 ∷
+    [])
 
 -- children by length, then number
 abbrev pub netLength : Net
@@ -57,11 +60,13 @@ netLength = net 5 0 1 5 (seg 4 0 4 ∷ seg 2 3 4 ∷ seg 2 4 3 ∷ seg 0 2 3 ∷
 
 -- the outer test by the path
 abbrev pub netNote : Net
-netNote = net 6 0 1 2 (seg 0 1 4 ∷ seg 1 2 4 ∷ seg 0 2 6 ∷ seg 2 4 5 ∷ seg 4 3 5 ∷ seg 2 3 5 ∷ seg 4 5 5 ∷ seg 0 5 11 ∷ [])
+netNote = net 6 0 1 2 (seg 0 1 4 ∷ seg 1 2 4 ∷ seg 0 2 6 ∷ seg 2 4 5 ∷ seg 4 3 5 ∷ seg 2 3 5 ∷ seg 4 5 5 ∷ seg 0 5 11 ∷
+    [])
 
 -- no inner test, so that every path is laid from the source
 abbrev pub netStop : Net
-netStop = net 8 0 1 2 (seg 0 1 5 ∷ seg 1 2 4 ∷ seg 0 2 6 ∷ seg 2 4 8 ∷ seg 0 3 7 ∷ seg 3 4 7 ∷ seg 4 5 8 ∷ seg 5 6 8 ∷ seg 6 7 8 ∷ seg 4 7 9 ∷ [])
+netStop = net 8 0 1 2 (seg 0 1 5 ∷ seg 1 2 4 ∷ seg 0 2 6 ∷ seg 2 4 8 ∷ seg 0 3 7 ∷ seg 3 4 7 ∷ seg 4 5 8 ∷ seg 5 6 8 ∷
+    seg 6 7 8 ∷ seg 4 7 9 ∷ [])
 
 -- posts and no segment
 abbrev pub bare : ℕ → Net
@@ -73,7 +78,8 @@ lists k = record { lightest = k; shortest = k; between = k }
 abbrev pub measures : ℕ → ℕ → Measured
 measures long wide = record { length = long; radius = wide }
 
--- what building answers for a net of m segments with three lists of k entries, and a list of k + 1 entries afterwards, which held 7 everywhere
+-- what building answers for a net of m segments with three lists of k entries, and a list of k + 1 entries afterwards,
+-- which held 7 everywhere
 abbrev pub answer : Net → ℕ → ℕ → BuildAnswer
 answer n m k = buildOf every n m (lists k)
 
@@ -103,7 +109,8 @@ pub record NetsWorked : Type 0 where
   pub a-7/5-margin : marginOf every (netA 7 5) 5 Lightest 3 ≡ margin (pos 0)
   -- "6/5: 0 1 3."
   pub a-6/5 : after (netA 6 5) 5 4 Between (7 ∷ 7 ∷ 7 ∷ 7 ∷ []) ≡ 65535 ∷ 0 ∷ 1 ∷ 3 ∷ []
-  -- NET B. (P) "Between 0 3 2 4, length 16, one laid. The note of post 3 stays 13, but its path is 10, and the radius is 10."
+  -- NET B. (P) "Between 0 3 2 4, length 16, one laid. The note of post 3 stays 13, but its path is 10, and the radius
+  -- is 10."
   pub b-between : after netB 5 5 Between (7 ∷ 7 ∷ 7 ∷ 7 ∷ 7 ∷ []) ≡ 65535 ∷ 0 ∷ 3 ∷ 2 ∷ 4 ∷ []
   pub b-answer : answer netB 5 5 ≡ built (measures 15 14) (measures 16 10) (measures 16 10) 1
   pub b-notes : (walkOf every netB) .d ≡ 0 ∷ 6 ∷ 9 ∷ 13 ∷ 7 ∷ []
@@ -137,7 +144,8 @@ pub record NetsWorked : Type 0 where
   pub note-between : after netNote 8 6 Between (7 ∷ 7 ∷ 7 ∷ 7 ∷ 7 ∷ 7 ∷ []) ≡ 65535 ∷ 0 ∷ 2 ∷ 5 ∷ 3 ∷ 7 ∷ []
   -- the inner test ends a laid path at the first post that is within D
   pub stop-answer : answer netStop 10 8 ≡ built (measures 47 38) (measures 51 30) (measures 48 30) 1
-  pub stop-between : after netStop 10 8 Between (7 ∷ 7 ∷ 7 ∷ 7 ∷ 7 ∷ 7 ∷ 7 ∷ 7 ∷ []) ≡ 65535 ∷ 0 ∷ 1 ∷ 4 ∷ 5 ∷ 6 ∷ 7 ∷ 9 ∷ []
+  pub stop-between : after netStop 10 8 Between (7 ∷ 7 ∷ 7 ∷ 7 ∷ 7 ∷ 7 ∷ 7 ∷ 7 ∷ [])
+      ≡ 65535 ∷ 0 ∷ 1 ∷ 4 ∷ 5 ∷ 6 ∷ 7 ∷ 9 ∷ []
   -- REFUSALS, each with its place, a later fault beside it
   pub refuses-1 : answer (net 0 0 1 0 []) 0 0 ≡ refusedWith 1 0
   pub refuses-257 : answer (bare 257) 0 257 ≡ refusedWith 1 0
@@ -151,7 +159,8 @@ pub record NetsWorked : Type 0 where
   pub refuses-6 : answer (net 2 0 1 1 (seg 0 1 1 ∷ seg 1 1 0 ∷ seg 0 2 1 ∷ [])) 3 2 ≡ refusedWith 6 1
   pub refuses-7-zero : answer (net 2 0 1 1 (seg 0 1 1 ∷ seg 0 1 0 ∷ [])) 2 1 ≡ refusedWith 7 1
   pub refuses-7-long : answer (net 2 0 1 1 (seg 0 1 1 ∷ seg 0 1 1048576 ∷ [])) 2 2 ≡ refusedWith 7 1
-  pub takes-longest : answer (net 2 0 1 1 (seg 0 1 1048575 ∷ [])) 1 2 ≡ built (measures 1048575 1048575) (measures 1048575 1048575) (measures 1048575 1048575) 0
+  pub takes-longest : answer (net 2 0 1 1 (seg 0 1 1048575 ∷ [])) 1 2 ≡ built (measures 1048575 1048575)
+      (measures 1048575 1048575) (measures 1048575 1048575) 0
   pub refuses-8 : buildOf every (bare 2) 0 (record { lightest = 2; shortest = 2; between = 1 }) ≡ refusedWith 8 0
   pub refuses-9 : answer (net 4 0 1 1 (seg 0 2 1 ∷ [])) 1 4 ≡ refusedWith 9 1
   pub untouched : after (net 4 0 1 1 (seg 0 2 1 ∷ [])) 1 4 Shortest (7 ∷ 8 ∷ 9 ∷ 7 ∷ []) ≡ 7 ∷ 8 ∷ 9 ∷ 7 ∷ []

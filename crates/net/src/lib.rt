@@ -1,9 +1,16 @@
-// A net: "a number of posts, a source post, a ratio p/q and a list of segments". What it is made of, and what an answer about it is made of.
-// The definitions that every other crate's contracts cite stand in specs/, in document 01's words; the laws up to demand 3 in proofs/. No function stands here:
-// the checks 1 to 7 are those of `checks`.
+// A net: "a number of posts, a source post, a ratio p/q and a list of segments". What it is made of, and what an answer
+// about it is made of. The definitions that every other crate's contracts cite stand in specs/, in document 01's words;
+// the laws up to demand 3 in proofs/. The only functions are small steps that several crates take (`plain`); the checks
+// 1 to 7 are those of `checks`.
 
+pub mod plain;
+
+// THE NUMBERS THAT BOUND A NET, each only here.
 // "Posts 1 to 256, numbered from 0."
 pub const MOST_POSTS: u32 = 256;
+
+// As many places of a list, one for each post that a net may have.
+pub const POST_PLACES: usize = MOST_POSTS as usize;
 
 // "Segments 0 to 2,048, numbered from 0 in list order."
 pub const MOST_SEGMENTS: usize = 2048;
@@ -13,6 +20,14 @@ pub const LONGEST: u32 = 1048575;
 
 // "p 0 to 10,000, q 1 to 10,000."
 pub const MOST_RATIO: u32 = 10000;
+
+// The entry of a post that hangs by no segment: "65,535 for the source".
+pub const NO_SEGMENT: u16 = 65535;
+
+// "none yet", which is larger than any length: 2^48.
+pub const NONE_YET: u64 = 281_474_976_710_656;
+
+// WHAT A NET IS MADE OF.
 
 // "A segment joins two posts and has a length in sixteenths of a millimetre."
 pub struct Segment {

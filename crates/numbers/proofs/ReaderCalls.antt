@@ -3,7 +3,7 @@
 --     reads        `number`: the reader stays as it is, and the number is known
 --     goes-on      `behind`: the place after that number
 --     moves        `moved`: the reader at that place
--- Each hands on that its result can be stored in a local. γ is the caller's table of routines, which has the function that is called. Relies on lent's `Held` and on
+-- Each hands on that its result can be stored in a local. γ is the caller's table of routines, which has the function that is called. Relies on `Held` of `by_hand` and on
 -- Readers, and of each function on its contract alone.
 use Prim.Native.Nat.{ℕ, _<_, _^_}
 use mathlib.Core.Path.{_≡_, refl}
@@ -26,9 +26,9 @@ use denote.Laws.{Is, Typed}
 use denote.Ref.{RefT, now}
 use denote.Steps.{owned}
 use denote.Struct.Laws as LL
-use Rattle.lent.proofs.Types as Types
-use Rattle.lent.proofs.Thin.{Over}
-use Rattle.lent.proofs.Held.{Known, known, asks, carries, of-data, own-of}
+use Rattle.by_hand.proofs.Types as Types
+use Rattle.by_hand.proofs.Thin.{Over}
+use Rattle.by_hand.proofs.Held.{Known, known, asks, carries, of-data, own-of}
 use Rattle.numbers.specs.Numbers.{number}
 use Rattle.numbers.specs.Answers.{numberedOf, behindOf}
 use Rattle.numbers.specs.declared.Numbered.{Numbered}

@@ -1,5 +1,5 @@
 -- What the walks over a reader share: the types that cross, and what a reader owns. That is what its bytes own, beside the facts of its place:
--- it is made of them (`reader-made`), it gives them up (`reader-opened`), and it can be had twice (`reader-twice`). Relies on lent's `Held`. Assumes `Given`.
+-- it is made of them (`reader-made`), it gives them up (`reader-opened`), and it can be had twice (`reader-twice`). Relies on `Held` of `by_hand`. Assumes `Given`.
 use Prim.Native.Nat.{ℕ, _<_, _^_}
 use mathlib.Core.Path.{refl}
 use mathlib.Core.List.{List, [], _∷_}
@@ -20,8 +20,8 @@ use denote.Struct.Declared.{Declared}
 use denote.Struct.Laws as LL
 use denote.Struct.Values.{Values}
 use denote.Struct.Rest.{all-own, ownAt, rest, own-open, own-out, own-shut}
-use Rattle.lent.proofs.Params.{Data, enum}
-use Rattle.lent.proofs.Held.{Held, slice, struct, own-of}
+use Rattle.by_hand.proofs.Params.{Data, enum}
+use Rattle.by_hand.proofs.Held.{Held, slice, struct, own-of}
 use Rattle.numbers.specs.declared.reader.Reader.{Reader}
 use Rattle.numbers.proofs.Numbered as Numbered
 use Rattle.numbers.proofs.Numbered.Laws as Numbered′

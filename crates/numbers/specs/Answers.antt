@@ -1,5 +1,5 @@
--- What the answers of the code say in document 01's words: a number and the offset after it, or 10 or 11 with its place.
--- Relies on `Numbers`; the contracts of the code are equations with these.
+-- What the answers of the code say in document 01's words: a number and the offset after it, or 10 or 11 with its
+-- place. Relies on `Numbers`; the contracts of the code are equations with these.
 use Prim.Native.Nat.{ℕ}
 use Rattle.net.specs.Refusals.{refusal}
 use Rattle.numbers.specs.Numbers.{Got, got, refused}

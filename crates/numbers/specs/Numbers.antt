@@ -1,5 +1,6 @@
--- A number in the record: "written in groups of seven bits, lowest group first; 128 is added to every byte but the last", and how one is read.
--- Relies on net's refusals; `Putting`, `Answers` and `Rules` stand on it, and so do the definitions of the crates `writing` and `records`.
+-- A number in the record: "written in groups of seven bits, lowest group first; 128 is added to every byte but the
+-- last", and how one is read. Relies on net's refusals; `Putting`, `Answers` and `Rules` stand on it, and so do the
+-- definitions of the crates `writing` and `reading`.
 use Prim.Native.Nat.{ℕ, zero, suc, _+_, _*_, _-_, _/_, _%_, _<_}
 use mathlib.Core.Bool.{_&&_, cond}
 use mathlib.Core.List.{List, [], _∷_}
@@ -31,8 +32,8 @@ pub data Got (X : Type 0) : Type 0 where
   refused : Refusal → Got X
 
 module _ (bytes : List ℕ) where
-  -- a number that begins at `start`: at most k groups more, of which the next stands at `at`, behind groups that make up `low`;
-  -- `unit` is what 1 counts for in that group
+  -- a number that begins at `start`: at most k groups more, of which the next stands at `at`, behind groups that make
+  -- up `low`; `unit` is what 1 counts for in that group
   unfoldable pub groupsAt : ℕ → ℕ → ℕ → ℕ → ℕ → Got ℕ
   groupsAt start zero unit low at = refused (refusal 11 start)
   groupsAt start (suc k) unit low at =

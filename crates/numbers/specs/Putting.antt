@@ -1,4 +1,5 @@
--- Bytes put into a room, and the part that a number's writer hands back. Relies on `Numbers`; the record's writing stands on it.
+-- Bytes put into a room, and the part that a number's writer hands back. Relies on `Numbers`; the record's writing
+-- stands on it.
 use Prim.Native.Nat.{ℕ, _+_}
 use mathlib.Core.Bool.{_&&_, cond}
 use mathlib.Core.List.{List, [], _++_}
@@ -14,6 +15,7 @@ onto s l = s ++ drop (length s) l
 abbrev pub put : ℕ → List ℕ → List ℕ → List ℕ
 put i s l = take i l ++ (s ++ drop (i + length s) l)
 
--- the part that a number's writer hands back: the number's bytes, or nothing where it has more than four groups or the room is too short
+-- the part that a number's writer hands back: the number's bytes, or nothing where it has more than four groups or the
+-- room is too short
 unfoldable pub partOf : ℕ → List ℕ → List ℕ
 partOf n l = cond (ltb n mostNumbers && leb (length (written n)) (length l)) (written n) []

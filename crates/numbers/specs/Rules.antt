@@ -1,5 +1,6 @@
--- A number as rules, one constructor for each refusal with its place, without tests and without an order of work: each says that nothing before it holds.
--- proofs/RuledNumbers proves that every place of a record has an answer by these rules, that it has no other, and that `number` computes it.
+-- A number as rules, one constructor for each refusal with its place, without tests and without an order of work: each
+-- says that nothing before it holds. proofs/RuledNumbers proves that every place of a record has an answer by these
+-- rules, that it has no other, and that `number` computes it.
 use Prim.Native.Nat.{ℕ, _+_, _<_, _≤_}
 use mathlib.Core.Path.{_≡_}
 use mathlib.Core.List.{List, _++_}
@@ -22,5 +23,6 @@ module _ (bytes : List ℕ) where
   pub data NumberRule (at : ℕ) : Got ℕ → Type 0 where
     stands : {n next : ℕ} → n < mostNumbers → Stand bytes at (written n) next → NumberRule at (got n next)
     ten : {k : ℕ} → k < 4 → MoreFollow at k → length bytes ≤ at + k → NumberRule at (refused (refusal 10 at))
-    eleven-zero : {k : ℕ} → 1 ≤ k → k < 4 → MoreFollow at k → at + k < length bytes → getD bytes (at + k) 0 ≡ 0 → NumberRule at (refused (refusal 11 at))
+    eleven-zero : {k : ℕ} → 1 ≤ k → k < 4 → MoreFollow at k → at + k < length bytes → getD bytes (at + k) 0 ≡ 0
+        → NumberRule at (refused (refusal 11 at))
     eleven-more : MoreFollow at 4 → NumberRule at (refused (refusal 11 at))

@@ -1,7 +1,9 @@
-// A number in the record: "written in groups of seven bits, lowest group first; 128 is added to every byte but the last." Reading one at a place, putting one
-// into a room, and a reader that carries the record and its place from number to number. What each function promises is an equation with a definition of
-// specs/; that a number's bytes read as that number, and no others do, stands in proofs/. Relies on `net` for what a refusal is, and on `lent` for the walks
-// over a reader. The crates `writing` and `records` stand on it; `fill_number` and `put_at` ask that the number fits, and nothing else here asks anything.
+// A number in the record: "written in groups of seven bits, lowest group first; 128 is added to every byte but the
+// last." Reading one at a place, putting one into a room, and a reader that carries the record and its place from
+// number to number. What each function promises is an equation with a definition of specs/; that a number's bytes read
+// as that number, and no others do, stands in proofs/. Relies on `net` for what a refusal is, and on `by_hand` for the
+// walks over a reader. The crates `writing` and `reading` stand on it; `fill_number` and `put_at` ask that the number
+// fits, and nothing else here asks anything.
 pub mod reader;
 
 ghost use mathlib.Core.Path.{_≡_};
@@ -34,9 +36,10 @@ fn refused(number: u32, place: usize) -> Numbered
     Numbered::Refused { number, place }
 }
 
-// The number that begins at `at`: 10 where the bytes end before it or inside it, 11 where its last group is zero or a fourth says that more follow.
+// The number that begins at `at`: 10 where the bytes end before it or inside it, 11 where its last group is zero or a
+// fourth says that more follow.
 pub fn number_at(bytes: &[u8], at: usize) -> Numbered
-    ensures { λ r. ⌜ r ≡ numberedOf (number (now (bytes .entry)) at) ⌝ }
+    ensures read { λ r. ⌜ r ≡ numberedOf (number (now (bytes .entry)) at) ⌝ }
 {
     let mut low: u32 = 0;
     let mut unit: u32 = 1;
@@ -68,7 +71,7 @@ pub fn number_at(bytes: &[u8], at: usize) -> Numbered
 
 // How many bytes a number takes.
 pub fn number_size(n: u32) -> usize
-    ensures { λ r. ⌜ (r ≡ length (written n)) × (r ≤ 4) ⌝ }
+    ensures sized { λ r. ⌜ (r ≡ length (written n)) × (r ≤ 4) ⌝ }
 {
     if n < 128 {
         return 1;
@@ -108,7 +111,7 @@ fn fill_number(room: &mut [u8], n: u32) -> usize
 // Writes a number into the rest of the room, from the byte `at` on: the next free byte.
 pub fn put_at(room: &mut [u8], at: usize, n: u32) -> usize
     requires { ⌜ (n < mostNumbers) × (at + length (written n) ≤ length (now room)) ⌝ }
-    ensures { λ r. ⌜ (r ≡ at + length (written n)) × (now (room .exit) ≡ put at (written n) (now (room .entry))) ⌝ }
+    ensures put { λ r. ⌜ (r ≡ at + length (written n)) × (now (room .exit) ≡ put at (written n) (now (room .entry))) ⌝ }
 {
     let size = fill_number(&mut room[at..], n);
     at + size
@@ -117,7 +120,7 @@ pub fn put_at(room: &mut [u8], at: usize, n: u32) -> usize
 // Writes a number from the first byte of `room` on, and hands back the part that it wrote: the number's bytes.
 // Where the number has more than four groups or the room is too short, nothing is written and the part is empty.
 pub fn put_number<'a>(room: &'a mut [u8], n: u32) -> &'a mut [u8]
-    ensures { λ r. ⌜ now r ≡ partOf n (now (room .entry)) ⌝ }
+    ensures handed { λ r. ⌜ now r ≡ partOf n (now (room .entry)) ⌝ }
 {
     if MOST_NUMBER < n {
         return &mut room[..0];

@@ -1,5 +1,6 @@
-// "The reader carries the lent record and its place in it from number to number." A number is read at its place by `number_at`;
-// a caller that has the bytes alone calls a function with plain parameters above these, as `records` does for the head.
+// "The reader carries the lent record and its place in it from number to number." A number is read at its place by
+// `number_at`; a caller that has the bytes alone calls a function with plain parameters above these, as `reading` does
+// for the head.
 use crate::Numbered;
 use crate::number_at;
 ghost use mathlib.Core.Path.{_≡_};
@@ -14,7 +15,7 @@ pub struct Reader<'a> {
 
 // Where a reader goes on: the place after a number; where it was refused, it stays at its place.
 pub fn behind(n: Numbered) -> usize
-    ensures { λ r. ⌜ r ≡ behindOf n ⌝ }
+    ensures placed { λ r. ⌜ r ≡ behindOf n ⌝ }
 {
     match n {
         Numbered::Number { value: _, next } => next,
@@ -24,21 +25,21 @@ pub fn behind(n: Numbered) -> usize
 
 // A reader at the record's first byte.
 pub fn new<'a>(bytes: &'a [u8]) -> Reader<'a>
-    ensures { λ r. ⌜ r ≡ record { bytes = bytes .entry; at = 0 } ⌝ }
+    ensures made { λ r. ⌜ r ≡ record { bytes = bytes .entry; at = 0 } ⌝ }
 {
     Reader { bytes, at: 0 }
 }
 
 // The number at the reader's place, or 10 or 11.
 pub fn number<'a>(r: Reader<'a>) -> Numbered
-    ensures { λ n. ⌜ n ≡ numberedOf (number (now (r .entry .bytes)) (r .entry .at)) ⌝ }
+    ensures read { λ n. ⌜ n ≡ numberedOf (number (now (r .entry .bytes)) (r .entry .at)) ⌝ }
 {
     number_at(r.bytes, r.at)
 }
 
 // The reader at another place of its record.
 pub fn moved<'a>(r: Reader<'a>, at: usize) -> Reader<'a>
-    ensures { λ q. ⌜ q ≡ record { bytes = r .entry .bytes; at = at } ⌝ }
+    ensures moved { λ q. ⌜ q ≡ record { bytes = r .entry .bytes; at = at } ⌝ }
 {
     Reader { bytes: r.bytes, at }
 }

@@ -14,26 +14,26 @@ use Rattle.net.specs.declared.Refusal.{Refusal}
 use Rattle.net.specs.declared.Tree.{Tree}
 use Rattle.net.specs.declared.Tree.the-variants.{Lightest, Shortest, Between}
 use Rattle.net.proofs.Refusals.{build-answers, build-only, nine-exactly, not-joined-exactly, margin-answers, margin-only}
-use Rattle.lent.specs.Lists.{netOn}
-use Rattle.looms.specs.Answers.{answerOf, saysOf, lentOf}
+use Rattle.crossings.specs.Lists.{netOn}
+use Rattle.building.specs.Answers.{answerOf, saysOf, lentOf}
 use Rattle.margins.specs.Answers.{marginAnswerOf, marginSaysOf}
 use Rattle.margins.specs.declared.MarginAnswer.{MarginAnswer}
 use Rattle.margins.specs.declared.MarginAnswer.the-variants.{Refused as Unmeasured}
-use Rattle.looms.proofs.Meaning.{refused-exactly}
-use Rattle.looms.proofs.Unique.{answer-says}
+use Rattle.building.proofs.Meaning.{refused-exactly}
+use Rattle.building.proofs.Unique.{answer-says}
 use Rattle.margins.proofs.Unique.{margin-answer-says}
 use Rattle.numbers.specs.Numbers.{Got, got, refused}
-use Rattle.records.specs.Reading.{netRead}
+use Rattle.reading.specs.Reading.{netRead}
 use Rattle.writing.specs.Writing.{netWritten, writeRefusal, afterWriting, roomAfter}
-use Rattle.records.specs.Answers.{saysBy}
+use Rattle.reading.specs.Answers.{saysBy, checkRead}
 use Rattle.writing.specs.Answers.{refusal-of, writeAnswerBy, writeAnswerOf, saysWritten, Writes}
 use Rattle.writing.specs.declared.WriteAnswer.{WriteAnswer}
-use Rattle.records.proofs.Ruled.{read-answers, read-only}
+use Rattle.reading.proofs.Ruled.{read-answers, read-only}
 use Rattle.writing.proofs.RuledWriting.{write-answers, write-only}
-use Rattle.droverboot.specs.Reading.{readAnswer, listRead}
-use Rattle.plans.specs.Asked.{recordRead, plannedWith, planOf, treeList, Plans, rewriteOf, roomOf, Rewrites, marginSaid, marginRead, checkRead}
-use Rattle.plans.specs.Says.{saysPlanned}
-use Rattle.plans.specs.declared.PlanAnswer.{PlanAnswer}
+use Rattle.on_segments.specs.Reading.{readAnswer, listRead}
+use Rattle.on_records.specs.Asked.{recordRead, plannedWith, planOf, treeList, Plans, rewriteOf, roomOf, Rewrites, marginSaid, marginRead}
+use Rattle.on_records.specs.Says.{saysPlanned}
+use Rattle.on_records.specs.declared.PlanAnswer.{PlanAnswer}
 use Rattle.drawn.specs.declared.Run.{Run}
 use Rattle.drawn.proofs.Rules.{outcome-answers, outcome-only}
 use Rattle.promises.specs.Demand1.{BuildRefuses, MarginRefuses, ReadRefuses, WriteRefuses, OnRecord, by-reading, by-net, PlanRefuses, RewriteRefuses, RecordMarginRefuses, CheckRefuses, DrawnRefuses, Demand1}

@@ -20,31 +20,31 @@ use Rattle.net.specs.declared.Tree.{Tree}
 use Rattle.net.specs.declared.Tree.the-variants.{Lightest, Shortest, Between}
 use Rattle.net.proofs.Sound.{D-is-least, shortest-says, lightest-exactly, lightest-tree, shortest-tree, between-tree}
 use Rattle.net.proofs.WalkRuled.{net-walk, only-net-walk}
-use Rattle.lent.specs.Lists.{netOn}
-use Rattle.looms.specs.Answers.{saysOf, Leaves}
+use Rattle.crossings.specs.Lists.{netOn}
+use Rattle.building.specs.Answers.{saysOf, Leaves}
 use Rattle.margins.specs.Answers.{marginAnswerOf, marginSaysOf}
-use Rattle.looms.specs.declared.Answer.{Answer}
+use Rattle.building.specs.declared.Answer.{Answer}
 use Rattle.margins.specs.declared.MarginAnswer.{MarginAnswer}
-use Rattle.looms.proofs.Unique.{says-answer}
+use Rattle.building.proofs.Unique.{says-answer}
 use Rattle.margins.proofs.Unique.{margin-answer-says, margin-says}
-use Rattle.plans.specs.Asked.{Plans, recordRead, marginSaid, marginRead}
-use Rattle.plans.specs.Says.{Plan, saysPlanned}
-use Rattle.plans.specs.declared.PlanAnswer.{PlanAnswer}
+use Rattle.on_records.specs.Asked.{Plans, recordRead, marginSaid, marginRead}
+use Rattle.on_records.specs.Says.{Plan, saysPlanned}
+use Rattle.on_records.specs.declared.PlanAnswer.{PlanAnswer}
 use Rattle.margins.specs.declared.MarginAnswer.the-variants.{Margin}
 use Rattle.margins.proofs.Meaning.{given-below, given-zero, given-source, given-between, given-shortest}
 use Rattle.numbers.specs.Numbers.{Bytes, Got, got, refused}
-use Rattle.records.specs.Reading.{netRead}
+use Rattle.reading.specs.Reading.{netRead}
 use Rattle.numbers.specs.Putting.{onto}
 use Rattle.writing.specs.Writing.{netWritten}
-use Rattle.records.specs.Answers.{saysBy}
+use Rattle.reading.specs.Answers.{saysBy}
 use Rattle.writing.specs.Answers.{result, saysWritten, Writes}
-use Rattle.records.specs.declared.reading.ReadAnswer.{ReadAnswer}
+use Rattle.reading.specs.declared.ReadAnswer.{ReadAnswer}
 use Rattle.writing.specs.declared.WriteAnswer.{WriteAnswer}
 use Rattle.writing.specs.declared.WriteAnswer.the-variants.{Written, Refused as NotWritten}
-use Rattle.records.proofs.RoundTrip.{read-of-written, records-equal, nets-equal}
-use Rattle.records.proofs.Outcomes.{read-writes}
+use Rattle.reading.proofs.RoundTrip.{read-of-written, records-equal, nets-equal}
+use Rattle.reading.proofs.Outcomes.{read-writes}
 use Rattle.writing.proofs.Outcomes.{was-written}
-use Rattle.droverboot.specs.Reading.{readAnswer, listRead, Reads}
+use Rattle.on_segments.specs.Reading.{readAnswer, listRead, Reads}
 use Rattle.drawn.specs.Says.{saysOf as drawnSays}
 use Rattle.drawn.specs.declared.Answer.the-variants.{Length}
 use Rattle.drawn.proofs.Rules.{same-says}

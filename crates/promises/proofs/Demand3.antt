@@ -11,15 +11,15 @@ use Rattle.net.specs.declared.Measured.{Measured}
 use Rattle.net.proofs.Cost.{AllOf, all-of}
 use Rattle.net.proofs.Sound.{between-tree, laid-length, laid-sum}
 use Rattle.net.proofs.Demand.{path-limit, no-slack, length-limit, length-limit-tree}
-use Rattle.lent.specs.Lists.{netOn}
-use Rattle.looms.specs.Answers.{Leaves, saysOf}
-use Rattle.looms.specs.declared.Answer.{Answer}
-use Rattle.looms.proofs.Unique.{says-answer}
+use Rattle.crossings.specs.Lists.{netOn}
+use Rattle.building.specs.Answers.{Leaves, saysOf}
+use Rattle.building.specs.declared.Answer.{Answer}
+use Rattle.building.proofs.Unique.{says-answer}
 use Rattle.numbers.specs.Numbers.{got}
 use Rattle.writing.specs.Answers.{result}
-use Rattle.plans.specs.Asked.{recordRead, Plans}
-use Rattle.plans.specs.Says.{Plan, saysPlanned}
-use Rattle.plans.specs.declared.PlanAnswer.{PlanAnswer}
+use Rattle.on_records.specs.Asked.{recordRead, Plans}
+use Rattle.on_records.specs.Says.{Plan, saysPlanned}
+use Rattle.on_records.specs.declared.PlanAnswer.{PlanAnswer}
 use Rattle.promises.specs.Demand3.{Bounds, LengthWithin, Demand3}
 use Rattle.promises.proofs.Taken.{taken-sound, taken-joined, planned-net}
 use Rattle.promises.proofs.Demand2.{built-as-stated}

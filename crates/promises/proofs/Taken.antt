@@ -13,14 +13,14 @@ use Rattle.net.specs.declared.Refusal.{Refusal}
 use Rattle.net.specs.declared.Tree.{Tree}
 use Rattle.net.specs.declared.Tree.the-variants.{Lightest, Shortest, Between}
 use Rattle.net.proofs.Refusals.{accepted}
-use Rattle.looms.specs.Answers.{answerOf, lentOf, saysOf, Leaves}
-use Rattle.looms.specs.declared.Answer.{Answer}
-use Rattle.looms.proofs.Unique.{build-says}
+use Rattle.building.specs.Answers.{answerOf, lentOf, saysOf, Leaves}
+use Rattle.building.specs.declared.Answer.{Answer}
+use Rattle.building.proofs.Unique.{build-says}
 use Rattle.numbers.specs.Numbers.{Got, got, refused as unread}
 use Rattle.writing.specs.Answers.{result}
-use Rattle.plans.specs.Asked.{recordRead, plannedWith, planOf, treeList, Plans}
-use Rattle.plans.specs.Says.{Plan, saysPlanned}
-use Rattle.plans.specs.declared.PlanAnswer.{PlanAnswer}
+use Rattle.on_records.specs.Asked.{recordRead, plannedWith, planOf, treeList, Plans}
+use Rattle.on_records.specs.Says.{Plan, saysPlanned}
+use Rattle.on_records.specs.declared.PlanAnswer.{PlanAnswer}
 
 module _ (n : Net) (m : ℕ) (l s w : List ℕ) {a : Answer} {l′ s′ w′ : List ℕ} {x y z : Measured} {k : ℕ} (leaves : Leaves n m l s w a l′ s′ w′) (says : saysOf a ≡ built x y z k) where
   said : buildOf every n m (lentOf l s w) ≡ built x y z k

@@ -1,17 +1,18 @@
 -- Two outcomes of an entry are equal: the laws of the crates, in one place.
+use mathlib.Core.Path.{sym, _∙_}
 use Prim.Native.Nat.{ℕ}
 use lib.ListN.{length}
 use Rattle.net.specs.Net.{Net}
 use Rattle.checks.proofs.Unique.{check-head-one, check-numbers-one, check-segment-one, check-one}
-use Rattle.lent.specs.Lists.{netOn}
-use Rattle.looms.proofs.Unique.{build-one}
+use Rattle.crossings.specs.Lists.{netOn}
+use Rattle.building.proofs.Unique.{build-one}
 use Rattle.margins.proofs.Unique.{margin-one}
 use Rattle.numbers.proofs.Outcomes as numbers
-use Rattle.records.proofs.Outcomes.{read-array-unique}
-use Rattle.writing.proofs.Outcomes.{write-array-unique}
-use Rattle.droverboot.proofs.Unique.{read-one}
-use Rattle.plans.proofs.Unique as plans
-use Rattle.abi.proofs.Unique as abi
+use Rattle.reading.proofs.Outcomes.{read-unique}
+use Rattle.writing.proofs.Outcomes.{write-unique}
+use Rattle.on_segments.proofs.Unique.{read-one}
+use Rattle.on_records.proofs.Unique as on-records
+use Rattle.c_calls.proofs.Unique as c-calls
 use Rattle.drawn.proofs.Rules.{same-outcome}
 use Rattle.promises.specs.Unique.{OneBuilding, OneMargin, OneWriting, Unique}
 
@@ -22,7 +23,7 @@ one-margin : (n : Net) (m : ℕ) → OneMargin n m
 one-margin n m t post a b = margin-one n m t post
 
 one-writing : (n : Net) (m : ℕ) → OneWriting n m
-one-writing n m = write-array-unique n m
+one-writing n m = write-unique n m
 
 pub unique : Unique
 unique =
@@ -32,19 +33,20 @@ unique =
       write = λ h segments. one-writing (netOn h segments) (length segments);
       read = read-one;
       drawn = λ run. same-outcome run _ _;
-      plan = λ bytes l s w p q. (let e = plans.plan-one bytes l s w p q in (e .answers, e .lightest, e .shortest, e .between));
-      rewrite = plans.rewrite-one;
-      margin-read = plans.margin-one;
-      check-read = plans.check-one;
-      c-check = abi.check-one;
-      c-plan = λ bytes l s w d p q. (let e = abi.plan-one bytes l s w d p q in (e .numbers, e .lightest, e .shortest, e .between, e .summary));
-      c-rewrite = abi.rewrite-one;
-      c-margin = abi.margin-one;
-      c-drawn = abi.drawn-one;
-      build-array = one-building;
-      margin-array = one-margin;
-      write-array = one-writing;
-      read-array = λ bytes room. read-array-unique bytes room _ _;
+      plan = λ bytes l s w p q. (let e = on-records.plan-one bytes l s w p q in (e .answers, e .lightest, e .shortest, e .between));
+      rewrite = on-records.rewrite-one;
+      margin-read = on-records.margin-one;
+      check-read = on-records.check-one;
+      c-check = c-calls.check-one;
+      c-plan = λ bytes l s w d p q. (let e = c-calls.plan-one bytes l s w d p q in (e .numbers, e .lightest, e .shortest, e .between, e .summary));
+      c-rewrite = c-calls.rewrite-one;
+      c-margin = c-calls.margin-one;
+      c-drawn = c-calls.drawn-one;
+      build-lists = one-building;
+      margin-lists = one-margin;
+      write-lists = one-writing;
+      read-lists = λ bytes x y z. read-unique bytes x y z _ _ _ _ _ _ _ _;
+      check-record = λ bytes p q. p ∙ sym q;
       number-at = λ bytes at. numbers.number-at-unique bytes at _ _;
       put-number = λ n room. numbers.put-number-unique n room _ _;
       reader-new = λ bytes. numbers.new-unique bytes _ _;

@@ -1,8 +1,10 @@
--- Demand 2: "Exactly the published rules. Lightest tree, shortest tree and walk as document 01 states them, ties included. Records are read and written both
--- ways without loss, one record for one net. A drawn length becomes the whole number of sixteenths that it is."
--- The definitions of net/specs compute the trees; `TreesAsStated` is what they come to in document 01's own words, over chains, routes and the walk's rules. The rest is said of the
--- outcomes that the entries' contracts allow: what building leaves in the lent lists, a margin that is given, what is read and written, a drawn run's length. What an answer
--- says, its number and values, is `saysOf`, `saysPlanned`, `marginSaysOf`, `saysBy`, `saysWritten` and, of a run, `drawnSays`.
+-- Demand 2: "Exactly the published rules. Lightest tree, shortest tree and walk as document 01 states them, ties
+-- included. Records are read and written both ways without loss, one record for one net. A drawn length becomes the
+-- whole number of sixteenths that it is." The definitions of net/specs compute the trees; `TreesAsStated` is what they
+-- come to in document 01's own words, over chains, routes and the walk's rules. The rest is said of the outcomes that
+-- the entries' contracts allow: what building leaves in the lent lists, a margin that is given, what is read and
+-- written, a drawn run's length. What an answer says, its number and values, is `saysOf`, `saysPlanned`,
+-- `marginSaysOf`, `saysBy`, `saysWritten` and, of a run, `drawnSays`.
 use mathlib.Core.Path.{_≡_}
 use mathlib.Core.Logic.{_↔_}
 use mathlib.Core.Bool.{false}
@@ -24,21 +26,21 @@ use Rattle.net.specs.Walk.{Notes, Given}
 use Rattle.net.specs.WalkRules.{WalkGives}
 use Rattle.net.specs.Building.{built, lightestOf, leastLengthsOf, shortestOf, betweenOf, laidOf, treeOf, marginOf}
 use Rattle.net.specs.Building as B
-use Rattle.lent.specs.Lists.{netOn}
-use Rattle.looms.specs.Answers.{Leaves, saysOf}
+use Rattle.crossings.specs.Lists.{netOn}
+use Rattle.building.specs.Answers.{Leaves, saysOf}
 use Rattle.margins.specs.Answers.{marginAnswerOf, marginSaysOf}
-use Rattle.looms.specs.declared.Answer.{Answer}
+use Rattle.building.specs.declared.Answer.{Answer}
 use Rattle.margins.specs.declared.MarginAnswer.{MarginAnswer}
 use Rattle.numbers.specs.Numbers.{Bytes, got}
 use Rattle.numbers.specs.Putting.{onto}
-use Rattle.records.specs.Answers.{saysBy}
+use Rattle.reading.specs.Answers.{saysBy}
 use Rattle.writing.specs.Answers.{result, saysWritten, Writes}
-use Rattle.records.specs.declared.reading.ReadAnswer.{ReadAnswer}
+use Rattle.reading.specs.declared.ReadAnswer.{ReadAnswer}
 use Rattle.writing.specs.declared.WriteAnswer.{WriteAnswer}
-use Rattle.droverboot.specs.Reading.{Reads}
-use Rattle.plans.specs.Asked.{recordRead, Plans, marginRead}
-use Rattle.plans.specs.Says.{Plan, saysPlanned}
-use Rattle.plans.specs.declared.PlanAnswer.{PlanAnswer}
+use Rattle.on_segments.specs.Reading.{Reads}
+use Rattle.on_records.specs.Asked.{recordRead, Plans, marginRead}
+use Rattle.on_records.specs.Says.{Plan, saysPlanned}
+use Rattle.on_records.specs.declared.PlanAnswer.{PlanAnswer}
 use Rattle.drawn.specs.Drawn.{drawnOf}
 use Rattle.drawn.specs.Says.{sixteenths, saysOf as drawnSays}
 use Rattle.drawn.specs.Rules.{Long, BothLong}
@@ -59,7 +61,8 @@ given n =
       q = λ _. n .head .q;
     }
 
--- the list t and the laid posts are those of the notes that the rules of the walk give from the source, and the rules give no other notes
+-- the list t and the laid posts are those of the notes that the rules of the walk give from the source, and the rules
+-- give no other notes
 pub record ByTheRules (n : Net) (t laid : List ℕ) : Type 0 where
   pub notes : Notes
   pub gives : WalkGives (given n) (n .head .source) notes
@@ -68,17 +71,24 @@ pub record ByTheRules (n : Net) (t laid : List ℕ) : Type 0 where
   pub laid-are : laid ≡ notes .laid
 
 pub record TreesAsStated (n : Net) : Type 0 where
-  -- LIGHTEST: its entries are exactly the segments whose ends no chain of segments before them joins, hung from the source
+  -- LIGHTEST: its entries are exactly the segments whose ends no chain of segments before them joins, hung from the
+  -- source
   pub lightest-belong : ExactlyBelonging (n .segments) every (n .head .posts) (n .head .source) (lightestOf every n)
-  pub lightest-tree : IsTree (n .segments) every (n .head .posts) (n .head .source) (lightestOf every n) (pathIn (n .segments) (n .head .posts) (lightestOf every n))
-  -- SHORTEST: "D(v) is the least length of a route from the source. Post v hangs by the lowest-numbered segment from some u with D(u) plus its length equal to D(v)."
-  pub D-least : (v : ℕ) → v < n .head .posts → IsLeast (n .segments) every (lengthAt (n .segments)) (n .head .source) v (at (leastLengthsOf every n) v)
+  pub lightest-tree : IsTree (n .segments) every (n .head .posts) (n .head .source) (lightestOf every n)
+      (pathIn (n .segments) (n .head .posts) (lightestOf every n))
+  -- SHORTEST: "D(v) is the least length of a route from the source. Post v hangs by the lowest-numbered segment from
+  -- some u with D(u) plus its length equal to D(v)."
+  pub D-least : (v : ℕ) → v < n .head .posts → IsLeast (n .segments) every (lengthAt (n .segments)) (n .head .source) v
+      (at (leastLengthsOf every n) v)
   pub shortest-hangs : (v : ℕ) → v < n .head .posts → (v ≡ n .head .source → ⊥)
       → HangsBy (n .segments) every (lengthAt (n .segments)) (leastLengthsOf every n) v (entry (shortestOf every n) v)
-  pub shortest-tree : IsTree (n .segments) every (n .head .posts) (n .head .source) (shortestOf every n) (pathIn (n .segments) (n .head .posts) (shortestOf every n))
-  -- BETWEEN: the third list and the laid posts are what document 01's rules for the walk give, and the rules give nothing else
+  pub shortest-tree : IsTree (n .segments) every (n .head .posts) (n .head .source) (shortestOf every n)
+      (pathIn (n .segments) (n .head .posts) (shortestOf every n))
+  -- BETWEEN: the third list and the laid posts are what document 01's rules for the walk give, and the rules give
+  -- nothing else
   pub walk-by-the-rules : ByTheRules n (betweenOf every n) (laidOf every n)
-  pub between-tree : IsTree (n .segments) every (n .head .posts) (n .head .source) (betweenOf every n) (pathIn (n .segments) (n .head .posts) (betweenOf every n))
+  pub between-tree : IsTree (n .segments) every (n .head .posts) (n .head .source) (betweenOf every n)
+      (pathIn (n .segments) (n .head .posts) (betweenOf every n))
 
 -- WHAT BUILDING LEAVES
 -- the answer's length and radius are those of the tree list t
@@ -92,17 +102,19 @@ pub record Holds (n : Net) (t before now : List ℕ) : Type 0 where
   pub rest : drop (n .head .posts) now ≡ drop (n .head .posts) before
 
 -- of a net n, of the three lists before and after, and of what the answer says
-pub record BuiltAsStated (n : Net) (l s w l′ s′ w′ : List ℕ) (lightest shortest between : Measured) (laid : ℕ) : Type 0 where
-  pub as-stated : TreesAsStated n
-  pub holds-lightest : Holds n (lightestOf every n) l l′
-  pub holds-shortest : Holds n (shortestOf every n) s s′
-  pub holds-between : Holds n (betweenOf every n) w w′
-  pub measures-lightest : Measures n (take (n .head .posts) l′) lightest
-  pub measures-shortest : Measures n (take (n .head .posts) s′) shortest
-  pub measures-between : Measures n (take (n .head .posts) w′) between
-  pub laid-is : laid ≡ length (laidOf every n)
+pub record BuiltAsStated (n : Net) (l s w l′ s′ w′ : List ℕ) (lightest shortest between : Measured) (laid : ℕ) : Type 0
+  where
+    pub as-stated : TreesAsStated n
+    pub holds-lightest : Holds n (lightestOf every n) l l′
+    pub holds-shortest : Holds n (shortestOf every n) s s′
+    pub holds-between : Holds n (betweenOf every n) w w′
+    pub measures-lightest : Measures n (take (n .head .posts) l′) lightest
+    pub measures-shortest : Measures n (take (n .head .posts) s′) shortest
+    pub measures-between : Measures n (take (n .head .posts) w′) between
+    pub laid-is : laid ≡ length (laidOf every n)
 
--- A RECORD THAT WAS PLANNED: it reads as a net, of which the same holds, and the plan q has its head and the number of its segments
+-- A RECORD THAT WAS PLANNED: it reads as a net, of which the same holds, and the plan q has its head and the number of
+-- its segments
 pub record PlannedAsStated (bytes l s w l′ s′ w′ : List ℕ) (q : Plan) : Type 0 where
   pub n : Net
   pub next : ℕ
@@ -111,50 +123,67 @@ pub record PlannedAsStated (bytes l s w l′ s′ w′ : List ℕ) (q : Plan) : 
   pub count-is : q .count ≡ length (n .segments)
   pub built-is : BuiltAsStated n l s w l′ s′ w′ (q .lightest) (q .shortest) (q .between) (q .laid)
 
--- A MARGIN z that is given for a post in the named tree: "It is signed, and below zero exactly when the post breaks the limit. For the source it is 0."
+-- A MARGIN z that is given for a post in the named tree: "It is signed, and below zero exactly when the post breaks the
+-- limit. For the source it is 0."
 pub record MarginAsStated (n : Net) (t : Tree) (post : ℕ) (z : ℤ) : Type 0 where
   -- "(p + q) × D minus q × path in the tree"
-  pub difference : z ≡ subℕ ((n .head .p + n .head .q) * at (leastLengthsOf every n) post) (n .head .q * pathIn (n .segments) (n .head .posts) (treeOf every n t) post)
+  pub difference : z ≡ subℕ ((n .head .p + n .head .q) * at (leastLengthsOf every n) post)
+      (n .head .q * pathIn (n .segments) (n .head .posts) (treeOf every n t) post)
   pub below-zero : ltZ z (pos 0)
-      ≡ ltb ((n .head .p + n .head .q) * at (leastLengthsOf every n) post) (n .head .q * pathIn (n .segments) (n .head .posts) (treeOf every n t) post)
+      ≡ ltb ((n .head .p + n .head .q) * at (leastLengthsOf every n) post)
+      (n .head .q * pathIn (n .segments) (n .head .posts) (treeOf every n t) post)
   pub zero-at-limit : (z ≡ pos 0)
-      ↔ ((n .head .p + n .head .q) * at (leastLengthsOf every n) post ≡ n .head .q * pathIn (n .segments) (n .head .posts) (treeOf every n t) post)
+      ↔ ((n .head .p + n .head .q) * at (leastLengthsOf every n) post ≡ n .head .q * pathIn (n .segments)
+      (n .head .posts) (treeOf every n t) post)
   pub source-zero : post ≡ n .head .source → z ≡ pos 0
   -- no post breaks its limit in the third tree, nor in the shortest
   pub between-within : t ≡ Between → ltZ z (pos 0) ≡ false
   pub shortest-within : t ≡ Shortest → ltZ z (pos 0) ≡ false
 
--- RECORDS: "read and written both ways without loss, one record for one net". What is read are bytes, each below 256 (`Bytes`)
+-- RECORDS: "read and written both ways without loss, one record for one net". What is read are bytes, each below 256
+-- (`Bytes`)
 pub record RecordsBothWays : Type 0 where
   -- what was written reads as the same net, laid into any list that is long enough
-  pub written-then-read : (n : Net) (room : List ℕ) {a : WriteAnswer} {size : ℕ} {x : List ℕ} → Writes n (length (n .segments)) room a x → saysWritten a ≡ result size
-      → (l : List Segment) {b : ReadAnswer} {l′ : List Segment} → length (n .segments) ≤ length l → Reads (take size x) l b l′
+  pub written-then-read : (n : Net) (room : List ℕ) {a : WriteAnswer} {size : ℕ} {x : List ℕ}
+      → Writes n (length (n .segments)) room a x → saysWritten a ≡ result size
+      → (l : List Segment) {b : ReadAnswer} {l′ : List Segment} → length (n .segments) ≤ length l
+      → Reads (take size x) l b l′
       → (saysBy b l′ ≡ result n) × (l′ ≡ n .segments ++ drop (length (n .segments)) l)
   -- what was read is written again byte for byte, into any room that is long enough
-  pub read-then-written : (bytes : List ℕ) (l : List Segment) {a : ReadAnswer} {l′ : List Segment} {n : Net} → Bytes bytes → Reads bytes l a l′ → saysBy a l′ ≡ result n
-      → (room : List ℕ) {b : WriteAnswer} {x : List ℕ} → length bytes ≤ length room → Writes n (length (n .segments)) room b x
+  pub read-then-written : (bytes : List ℕ) (l : List Segment) {a : ReadAnswer} {l′ : List Segment} {n : Net}
+      → Bytes bytes → Reads bytes l a l′ → saysBy a l′ ≡ result n
+      → (room : List ℕ) {b : WriteAnswer} {x : List ℕ} → length bytes ≤ length room
+      → Writes n (length (n .segments)) room b x
       → (saysWritten b ≡ result (length bytes)) × (x ≡ onto bytes room)
   -- two records of one net are equal
-  pub one-record : (b c : List ℕ) (l m : List Segment) {a a₂ : ReadAnswer} {l′ m′ : List Segment} {n : Net} → Bytes b → Bytes c
+  pub one-record : (b c : List ℕ) (l m : List Segment) {a a₂ : ReadAnswer} {l′ m′ : List Segment} {n : Net} → Bytes b
+      → Bytes c
       → Reads b l a l′ → saysBy a l′ ≡ result n → Reads c m a₂ m′ → saysBy a₂ m′ ≡ result n → b ≡ c
   -- and two nets of one record are
-  pub one-net : (n m : Net) (room room₂ : List ℕ) {a b : WriteAnswer} {size size₂ : ℕ} {x y : List ℕ} → Writes n (length (n .segments)) room a x → saysWritten a ≡ result size
+  pub one-net : (n m : Net) (room room₂ : List ℕ) {a b : WriteAnswer} {size size₂ : ℕ} {x y : List ℕ}
+      → Writes n (length (n .segments)) room a x → saysWritten a ≡ result size
       → Writes m (length (m .segments)) room₂ b y → saysWritten b ≡ result size₂ → take size x ≡ take size₂ y → n ≡ m
 
 -- DRAWN RUNS: "A drawn length becomes the whole number of sixteenths that it is."
 pub record DrawnAsStated : Type 0 where
   pub straight : (x : Float) {a : Drawn} → a ≡ drawnOf (Straight x) → (k : ℕ) → (drawnSays a ≡ sixteenths k) ↔ Long x k
-  pub corner : (x y : Float) {a : Drawn} → a ≡ drawnOf (Corner x y) → (k : ℕ) → (drawnSays a ≡ sixteenths k) ↔ BothLong x y k
+  pub corner : (x y : Float) {a : Drawn} → a ≡ drawnOf (Corner x y) → (k : ℕ) → (drawnSays a ≡ sixteenths k)
+      ↔ BothLong x y k
 
 -- EVERY ENTRY
 pub record Demand2 : Type 0 where
-  pub build : (h : Head) (segments : List Segment) (l s w : List ℕ) {a : Answer} {l′ s′ w′ : List ℕ} {x y z : Measured} {k : ℕ}
-      → Leaves (netOn h segments) (length segments) l s w a l′ s′ w′ → saysOf a ≡ built x y z k → BuiltAsStated (netOn h segments) l s w l′ s′ w′ x y z k
-  pub plan : (bytes l s w : List ℕ) {a : PlanAnswer} {l′ s′ w′ : List ℕ} {q : Plan} → Plans bytes l s w a l′ s′ w′ → saysPlanned a ≡ result q
+  pub build : (h : Head) (segments : List Segment) (l s w : List ℕ) {a : Answer} {l′ s′ w′ : List ℕ} {x y z : Measured}
+      {k : ℕ}
+      → Leaves (netOn h segments) (length segments) l s w a l′ s′ w′ → saysOf a ≡ built x y z k
+      → BuiltAsStated (netOn h segments) l s w l′ s′ w′ x y z k
+  pub plan : (bytes l s w : List ℕ) {a : PlanAnswer} {l′ s′ w′ : List ℕ} {q : Plan} → Plans bytes l s w a l′ s′ w′
+      → saysPlanned a ≡ result q
       → PlannedAsStated bytes l s w l′ s′ w′ q
   pub margin : (h : Head) (segments : List Segment) (t : Tree) (post : ℕ) {a : MarginAnswer} {z : ℤ}
-      → a ≡ marginAnswerOf (marginOf every (netOn h segments) (length segments) t post) → marginSaysOf a ≡ B.MarginAnswer.margin z → MarginAsStated (netOn h segments) t post z
-  pub margin-read : (bytes : List ℕ) (t : Tree) (post : ℕ) {a : MarginAnswer} {z : ℤ} → a ≡ marginRead bytes t post → marginSaysOf a ≡ B.MarginAnswer.margin z
+      → a ≡ marginAnswerOf (marginOf every (netOn h segments) (length segments) t post) → marginSaysOf a
+      ≡ B.MarginAnswer.margin z → MarginAsStated (netOn h segments) t post z
+  pub margin-read : (bytes : List ℕ) (t : Tree) (post : ℕ) {a : MarginAnswer} {z : ℤ} → a ≡ marginRead bytes t post
+      → marginSaysOf a ≡ B.MarginAnswer.margin z
       → {n : Net} {next : ℕ} → recordRead bytes ≡ got n next → MarginAsStated n t post z
   pub records : RecordsBothWays
   pub drawn : DrawnAsStated

@@ -1,6 +1,7 @@
--- Demand 3, the bounds: "The third tree reaches every post; for each post q·path ≤ (p+q)·(its shortest route in the net);
--- p·length ≤ (p+2q)·(length of any spanning tree of the net)." Stated over every route and over every set of segments that joins all posts, of what building
--- leaves in the third list: by demand 2 that is the walk's tree, and no copy of another.
+-- Demand 3, the bounds: "The third tree reaches every post; for each post q·path ≤ (p+q)·(its shortest route in the
+-- net); p·length ≤ (p+2q)·(length of any spanning tree of the net)." Stated over every route and over every set of
+-- segments that joins all posts, of what building leaves in the third list: by demand 2 that is the walk's tree, and no
+-- copy of another.
 use mathlib.Core.Path.{_≡_}
 use mathlib.Core.Bool.{Bool}
 use mathlib.Core.List.{List}
@@ -12,25 +13,28 @@ use Rattle.net.specs.declared.Segment.{Segment}
 use Rattle.net.specs.Net.{Net, every, lengthAt, Route, routeLength, weigh, setLength, JoinsAll, SpanningTree}
 use Rattle.net.specs.Trees.{at, IsLeast, IsTree, pathIn, whole}
 use Rattle.net.specs.Building.{built, lightestOf, leastLengthsOf, laidOf}
-use Rattle.lent.specs.Lists.{netOn}
-use Rattle.looms.specs.Answers.{Leaves, saysOf}
-use Rattle.looms.specs.declared.Answer.{Answer}
+use Rattle.crossings.specs.Lists.{netOn}
+use Rattle.building.specs.Answers.{Leaves, saysOf}
+use Rattle.building.specs.declared.Answer.{Answer}
 use Rattle.numbers.specs.Numbers.{got}
 use Rattle.writing.specs.Answers.{result}
-use Rattle.plans.specs.Asked.{recordRead, Plans}
-use Rattle.plans.specs.Says.{Plan, saysPlanned}
-use Rattle.plans.specs.declared.PlanAnswer.{PlanAnswer}
+use Rattle.on_records.specs.Asked.{recordRead, Plans}
+use Rattle.on_records.specs.Says.{Plan, saysPlanned}
+use Rattle.on_records.specs.declared.PlanAnswer.{PlanAnswer}
 
 -- of a net that building takes, and of its third tree t
 pub record Bounds (n : Net) (t : List ℕ) : Type 0 where
   -- the third tree reaches every post: from each a climb of its path's length leads to the source
-  pub reaches : IsTree (n .segments) every (n .head .posts) (n .head .source) t (pathIn (n .segments) (n .head .posts) t)
+  pub reaches : IsTree (n .segments) every (n .head .posts) (n .head .source) t
+      (pathIn (n .segments) (n .head .posts) t)
   -- q × path ≤ (p + q) × the length of every route, the shortest among them
   pub paths : (v : ℕ) → v < n .head .posts → (is : List ℕ) → Route (n .segments) every (n .head .source) is v
-      → n .head .q * pathIn (n .segments) (n .head .posts) t v ≤ (n .head .p + n .head .q) * routeLength (n .segments) is
+      → n .head .q * pathIn (n .segments) (n .head .posts) t v ≤ (n .head .p + n .head .q) * routeLength (n .segments)
+      is
   -- with p = 0 every path is as long as a shortest route
   pub no-slack : n .head .p ≡ 0 → (v : ℕ) → v < n .head .posts
-      → IsLeast (n .segments) every (lengthAt (n .segments)) (n .head .source) v (pathIn (n .segments) (n .head .posts) t v)
+      → IsLeast (n .segments) every (lengthAt (n .segments)) (n .head .source) v
+      (pathIn (n .segments) (n .head .posts) t v)
   -- p × length ≤ (p + 2q) × the length of any segments that join all posts
   pub length-any : (U : ℕ → Bool) → JoinsAll (n .segments) every (n .head .posts) (n .head .source) U
       → n .head .p * whole (n .segments) (n .head .posts) t ≤ (n .head .p + 2 * n .head .q) * setLength (n .segments) U
@@ -40,7 +44,8 @@ pub record Bounds (n : Net) (t : List ℕ) : Type 0 where
   -- what carries it: length ≤ tree walked + the least lengths of the posts laid, and p × these ≤ 2q × the tree walked
   pub laid-length : whole (n .segments) (n .head .posts) t
       ≤ whole (n .segments) (n .head .posts) (lightestOf every n) + weigh (at (leastLengthsOf every n)) (laidOf every n)
-  pub laid-sum : n .head .p * weigh (at (leastLengthsOf every n)) (laidOf every n) ≤ 2 * n .head .q * whole (n .segments) (n .head .posts) (lightestOf every n)
+  pub laid-sum : n .head .p * weigh (at (leastLengthsOf every n)) (laidOf every n)
+      ≤ 2 * n .head .q * whole (n .segments) (n .head .posts) (lightestOf every n)
 
 -- the third tree's length z as the answer says it: within the bound of every spanning tree
 pub record LengthWithin (n : Net) (z : ℕ) : Type 0 where
@@ -49,9 +54,12 @@ pub record LengthWithin (n : Net) (z : ℕ) : Type 0 where
 
 -- WHERE BUILDING SAYS BUILT
 pub record Demand3 : Type 0 where
-  pub build : (h : Head) (segments : List Segment) (l s w : List ℕ) {a : Answer} {l′ s′ w′ : List ℕ} {x y z : Measured} {k : ℕ}
+  pub build : (h : Head) (segments : List Segment) (l s w : List ℕ) {a : Answer} {l′ s′ w′ : List ℕ} {x y z : Measured}
+      {k : ℕ}
       → Leaves (netOn h segments) (length segments) l s w a l′ s′ w′ → saysOf a ≡ built x y z k
       → Bounds (netOn h segments) (take (h .posts) w′) × LengthWithin (netOn h segments) (z .length)
   -- and of a record that was planned
-  pub plan : (bytes l s w : List ℕ) {a : PlanAnswer} {l′ s′ w′ : List ℕ} {q : Plan} → Plans bytes l s w a l′ s′ w′ → saysPlanned a ≡ result q
-      → {n : Net} {next : ℕ} → recordRead bytes ≡ got n next → Bounds n (take (n .head .posts) w′) × LengthWithin n (q .between .length)
+  pub plan : (bytes l s w : List ℕ) {a : PlanAnswer} {l′ s′ w′ : List ℕ} {q : Plan} → Plans bytes l s w a l′ s′ w′
+      → saysPlanned a ≡ result q
+      → {n : Net} {next : ℕ} → recordRead bytes ≡ got n next → Bounds n (take (n .head .posts) w′)
+      × LengthWithin n (q .between .length)

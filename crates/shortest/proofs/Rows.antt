@@ -34,11 +34,11 @@ pushed-not {posts} {x} {c} n l j =
       links = λ k ne. ⊎-elim (λ p. absurd (ne (p .0))) (λ p. p .1) (stored n c k 0 0 j);
     }
 
-on-pos : {next : ℕ → ℕ} {k c : ℕ} → On next k c → 0 < c
+pub on-pos : {next : ℕ → ℕ} {k c : ℕ} → On next k c → 0 < c
 on-pos (On.first h) = h
 on-pos (On.later h o) = h
 
-split : {next : ℕ → ℕ} {k c : ℕ} → On next k c → (k ≡ c) ⊎ On next k (next c)
+pub split : {next : ℕ → ℕ} {k c : ℕ} → On next k c → (k ≡ c) ⊎ On next k (next c)
 split (On.first h) = inl refl
 split (On.later h o) = inr o
 
@@ -125,14 +125,15 @@ pub record Walking (a b weights : List ℕ) (present : List Bool) (next : List �
   pub most : (i v : ℕ) → i < length a → flag present i ≡ true → Joins (note a i) (note b i) u v → (note l v ≤ du + note weights i) ⊎ ((k : ℕ) × On (note next) k c × ((k - 1) / 2 ≡ i))
   pub from : (v : ℕ) → (note l v ≡ note l₀ v) ⊎ ((i : ℕ) × (i < length a) × (flag present i ≡ true) × Joins (note a i) (note b i) u v × (note l v ≡ du + note weights i))
 
+-- every segment that leads from u is on u's row
+pub joins-on : {a b : ℕ → ℕ} {posts t n u : ℕ} {head next : ℕ → ℕ} → u < posts → Index a b posts t n n head next
+    → (i v : ℕ) → i < n → Joins (a i) (b i) u v → (k : ℕ) × On next k (head u) × ((k - 1) / 2 ≡ i)
+joins-on hu I i v h (Joins.forth f g) = (2 * i + 1, rw (← f) (I .on-a i h (rw f hu)), omega arith)
+joins-on hu I i v h (Joins.back f g) = (2 * i + 2, rw (← f) (I .on-b i h (rw f hu)), omega arith)
+
 module _ {a b weights : List ℕ} {present : List Bool} {next : List ℕ} {u du : ℕ} where
   pub walking : {posts c : ℕ} {head : ℕ → ℕ} {l : List ℕ} → u < posts → Index (note a) (note b) posts (2 * length a) (length a) (length a) head (note next) → c ≡ head u → Walking a b weights present next u du c l l
-  walking {posts} {c} {head} {l} hu I e =
-      rw e (record { low = I .tops u hu; same = refl; falls = λ v. le-refl _; most = λ i v h p j. inr (first i v h j); from = λ v. inl refl })
-    where
-      first : (i v : ℕ) → i < length a → Joins (note a i) (note b i) u v → (k : ℕ) × On (note next) k (head u) × ((k - 1) / 2 ≡ i)
-      first i v h (Joins.forth f g) = (2 * i + 1, rw (← f) (I .on-a i h (rw f hu)), omega arith)
-      first i v h (Joins.back f g) = (2 * i + 2, rw (← f) (I .on-b i h (rw f hu)), omega arith)
+  walking hu I e = rw e (record { low = I .tops u hu; same = refl; falls = λ v. le-refl _; most = λ i v h p j. inr (joins-on hu I i v h j); from = λ v. inl refl })
 
   -- the segment at c is present, and was offered
   pub walking-more : {c c′ i x y o : ℕ} {l₀ l l′ : List ℕ} → Walking a b weights present next u du c l₀ l → (c - 1) / 2 ≡ i → i < length a → flag present i ≡ true

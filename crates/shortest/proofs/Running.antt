@@ -32,7 +32,7 @@ marked-more l i h e =
     let back : set (set l i true) i false ≡ l = set-set l i true false ∙ ap (λ (t : Bool). set l i t) (sym e) ∙ set-getD l i false in
     marked-drop (set l i true) i (getD-set-same l i true false h) ∙ ap (λ (x : List Bool). suc (marked x)) back
 
-all-down : (n i : ℕ) → flag (replicate n false) i ≡ false
+pub all-down : (n i : ℕ) → flag (replicate n false) i ≡ false
 all-down zero i = refl
 all-down (suc n) zero = refl
 all-down (suc n) (suc i) = all-down n i

@@ -1,5 +1,5 @@
--- The two trees that are hung by least lengths: what `distances` and `hang` leave is `shortest` where lengths count and all segments are present
--- (`shortest-is`), and `hungFrom` where each present segment counts for 1 (`hung-from-is`). Rests on `Sides` and `Alike`.
+-- The tree that is hung by least lengths: what `search` and `hang` leave is `shortest` where lengths count and all segments are present
+-- (`shortest-is`). Rests on `Sides` and `Alike`.
 use mathlib.Core.Path.{_≡_, refl, sym, ap, _∙_}
 use mathlib.Core.Bool.{Bool, true, false}
 use mathlib.Core.List.{List, _++_}
@@ -9,7 +9,7 @@ use lib.ListN.{length, getD, take, drop, replicate, length-replicate, getD-repli
 use lib.Seq.{length-take-le, getD-take, take-at}
 use Rattle.net.specs.Words.{noSegment}
 use Rattle.net.specs.Net.{mostSegments, every, segmentsOf, lengthAt}
-use Rattle.net.specs.Trees.{noneYet, at, one, least, hung, fewest, hungFrom, leastLengths, hangingWeight, shortest}
+use Rattle.net.specs.Trees.{noneYet, at, least, hung, leastLengths, hangingWeight, shortest}
 use Rattle.net.specs.declared.Segment.{Segment}
 use Rattle.net.proofs.Least.{length-least, least-most}
 use Rattle.net.proofs.Hung.{length-hung}
@@ -46,7 +46,7 @@ module _ {posts : ℕ} {a b weights : List ℕ} {present : List Bool} (z : Sides
   notes-low h =
       record { many = h; most = λ v k. omega (arith, notes-at v k, least-most (segmentsOf a b weights) (flag present) (note weights) posts (sides-inside z) s v k) }
 
--- THE FIRST m OF A LIST OF ONE VALUE: all segments present, and each counted as 1
+-- THE FIRST m OF A LIST OF ONE VALUE: all segments present
 pub length-first : {A : Type 0} (n m : ℕ) (x : A) → m ≤ n → length (take m (replicate n x)) ≡ m
 length-first n m x h = length-take-le m (replicate n x) (omega (arith, length-replicate n x))
 
@@ -55,9 +55,6 @@ first-at n m x d h i k = getD-take m (replicate n x) i d k ∙ getD-replicate n 
 
 abbrev pub allThere : ℕ → List Bool
 allThere m = take m (replicate mostSegments true)
-
-abbrev pub ones : ℕ → List ℕ
-ones m = take m (replicate mostSegments 1)
 
 -- ALL SEGMENTS, BY LENGTH
 module _ {posts : ℕ} {a b : List ℕ} (lengths : List ℕ) (z : Ends posts a b every) (same : length lengths ≡ length a) where
@@ -69,29 +66,24 @@ module _ {posts : ℕ} {a b : List ℕ} (lengths : List ℕ) (z : Ends posts a b
         present-many = length-first mostSegments (length a) true (z .few);
       }
 
-  all-alike : (w : ℕ → ℕ) → ((i : ℕ) → w i ≡ lengthAt (segmentsOf a b lengths) i) → Alike (segmentsOf a b lengths) (segmentsOf a b lengths) (flag (allThere (length a))) every (note lengths) w
-  all-alike w f =
+  all-alike : Alike (segmentsOf a b lengths) (flag (allThere (length a))) every (note lengths) (lengthAt (segmentsOf a b lengths))
+  all-alike =
       record {
-        many = refl;
-        a-same = λ i. refl;
-        b-same = λ i. refl;
         ok-same = λ i h. first-at mostSegments (length a) true false (z .few) i (omega (arith, length-segments a b lengths (z .b-many) same));
-        w-same = λ i h o. sym (f i ∙ (segments-are a b lengths (z .b-many) same) .length-is i);
+        w-same = λ i. sym ((segments-are a b lengths (z .b-many) same) .length-is i);
       }
 
   all-least : (s : ℕ) → least (segmentsOf a b lengths) (flag (allThere (length a))) (note lengths) posts s ≡ leastLengths (segmentsOf a b lengths) every posts s
   unfolding leastLengths
-  all-least s = least-alike (all-alike (lengthAt (segmentsOf a b lengths)) (λ i. refl)) posts s
+  all-least s = least-alike all-alike posts s
 
   all-hung : (s : ℕ)
       → hung (segmentsOf a b lengths) (flag (allThere (length a))) (note lengths) posts (least (segmentsOf a b lengths) (flag (allThere (length a))) (note lengths) posts s)
       ≡ shortest (segmentsOf a b lengths) every posts s
   unfolding shortest hangingWeight
   all-hung s =
-      let w = lengthAt (segmentsOf a b lengths) in
-      let y = all-alike w (λ i. refl) in
-      hung-alike y posts (least (segmentsOf a b lengths) (flag (allThere (length a))) (note lengths) posts s)
-      ∙ ap (λ (l : List ℕ). hung (segmentsOf a b lengths) every w posts l) (least-alike y posts s)
+      hung-alike all-alike posts (least (segmentsOf a b lengths) (flag (allThere (length a))) (note lengths) posts s)
+      ∙ ap (λ (l : List ℕ). hung (segmentsOf a b lengths) every (lengthAt (segmentsOf a b lengths)) posts l) (least-alike all-alike posts s)
 
   -- what the two steps leave: D and the shortest tree
   pub shortest-is : (s : ℕ) → s < posts → (d₀ t₀ : List ℕ) {d t : List ℕ}
@@ -102,41 +94,3 @@ module _ {posts : ℕ} {a b : List ℕ} (lengths : List ℕ) (z : Ends posts a b
       let front = notes-front all-sides s in-s d (drop posts d₀) e in
       let tree-is = ap (λ (x : List ℕ). hung (segmentsOf a b lengths) (flag (allThere (length a))) (note lengths) posts x) front ∙ all-hung s in
       (e ∙ ap (λ (x : List ℕ). x ++ drop posts d₀) (all-least s), f ∙ ap (λ (x : List ℕ). x ++ drop posts t₀) tree-is)
-
--- THE PRESENT SEGMENTS, EACH COUNTED AS 1
-module _ {posts : ℕ} {a b : List ℕ} (present : List Bool) (z : Ends posts a b (flag present)) (same : length present ≡ length a) where
-  pub one-sides : Sides posts a b (ones (length a)) present
-  one-sides = record { ends = z; weights-many = length-first mostSegments (length a) 1 (z .few); present-many = same }
-
-  one-alike : (lengths : List ℕ) → length lengths ≡ length a → Alike (segmentsOf a b (ones (length a))) (segmentsOf a b lengths) (flag present) (flag present) (note (ones (length a))) one
-  one-alike lengths h =
-      let e = length-first {A = ℕ} mostSegments (length a) 1 (z .few) in
-      let x = segments-are a b (ones (length a)) (z .b-many) e in
-      let y = segments-are a b lengths (z .b-many) h in
-      let n = length-segments a b (ones (length a)) (z .b-many) e in
-      record {
-        many = n ∙ sym (length-segments a b lengths (z .b-many) h);
-        a-same = λ i. x .a-is i ∙ sym (y .a-is i);
-        b-same = λ i. x .b-is i ∙ sym (y .b-is i);
-        ok-same = λ i k. refl;
-        w-same = λ i k o. first-at mostSegments (length a) 1 0 (z .few) i (omega (arith, n));
-      }
-
-  one-hung : (s : ℕ) (lengths : List ℕ) → length lengths ≡ length a
-      → hung (segmentsOf a b (ones (length a))) (flag present) (note (ones (length a))) posts (least (segmentsOf a b (ones (length a))) (flag present) (note (ones (length a))) posts s)
-      ≡ hungFrom (segmentsOf a b lengths) posts s (flag present)
-  unfolding hungFrom fewest
-  one-hung s lengths h =
-      let y = one-alike lengths h in
-      hung-alike y posts (least (segmentsOf a b (ones (length a))) (flag present) (note (ones (length a))) posts s)
-      ∙ ap (λ (l : List ℕ). hung (segmentsOf a b lengths) (flag present) one posts l) (least-alike y posts s)
-
-  -- what the two steps leave: the present segments hung from the source
-  pub hung-from-is : (s : ℕ) → s < posts → (r t₀ : List ℕ) {d t : List ℕ}
-      → d ≡ least (segmentsOf a b (ones (length a))) (flag present) (note (ones (length a))) posts s ++ r
-      → t ≡ hung (segmentsOf a b (ones (length a))) (flag present) (note (ones (length a))) posts (take posts d) ++ drop posts t₀
-      → (lengths : List ℕ) → length lengths ≡ length a → t ≡ hungFrom (segmentsOf a b lengths) posts s (flag present) ++ drop posts t₀
-  hung-from-is s in-s r t₀ {d} {t} e f lengths h =
-      let front = notes-front one-sides s in-s d r e in
-      let tree-is = ap (λ (x : List ℕ). hung (segmentsOf a b (ones (length a))) (flag present) (note (ones (length a))) posts x) front ∙ one-hung s lengths h in
-      f ∙ ap (λ (x : List ℕ). x ++ drop posts t₀) tree-is

@@ -1,6 +1,7 @@
--- The ladder of the open posts, those that are not settled: by it the least of their notes is found in a few steps. The rung of post v is `posts + v`: there
--- its note stands, or "none yet" once the post is settled. At each rung p from 1 on, below `posts`, the lesser of what stands at the rungs 2 * p and
--- 2 * p + 1 stands; so the least note of all stands at rung 1. t says what stands at a rung. Rests on `Notes` and `net`'s words.
+-- The ladder of the open posts, those that are not settled: by it the least of their notes is found in a few steps.
+-- The rung of post v is `posts + v`: there its note stands, or "none yet" once the post is settled. At each rung p
+-- from 1 on, below `posts`, the lesser of what stands at the rungs 2 * p and 2 * p + 1 stands; so the least note of
+-- all stands at rung 1. t says what stands at a rung. Rests on `Notes` and `net`'s words.
 use mathlib.Core.Path.{_≡_}
 use mathlib.Core.Bool.{Bool, true, false}
 use mathlib.Core.Logic.{_⊎_}

@@ -1,5 +1,5 @@
--- What the steps of the search for least lengths do to the notes. A list of notes is taken as the function that gives the note of a post.
--- Rests on `hanging`'s lists and `net`'s words.
+-- What the steps of the search for least lengths do to the notes. A list of notes is taken as the function that gives
+-- the note of a post. Rests on `hanging`'s lists and `net`'s words.
 use mathlib.Core.Path.{_≡_}
 use mathlib.Core.Bool.{Bool, true, false}
 use mathlib.Core.List.{List}
@@ -35,13 +35,17 @@ pub record Offered (u x y c : ℕ) (d d′ : ℕ → ℕ) : Type 0 where
 -- every present segment was offered from u, whose note is du
 pub record Relaxed (a b weights : List ℕ) (present : List Bool) (u du : ℕ) (d d′ : ℕ → ℕ) : Type 0 where
   pub falls : (v : ℕ) → d′ v ≤ d v
-  pub most : (i v : ℕ) → i < length a → flag present i ≡ true → Joins (note a i) (note b i) u v → d′ v ≤ du + note weights i
-  pub from : (v : ℕ) → (d′ v ≡ d v) ⊎ ((i : ℕ) × (i < length a) × (flag present i ≡ true) × Joins (note a i) (note b i) u v × (d′ v ≡ du + note weights i))
+  pub most : (i v : ℕ) → i < length a → flag present i ≡ true → Joins (note a i) (note b i) u v
+      → d′ v ≤ du + note weights i
+  pub from : (v : ℕ) → (d′ v ≡ d v)
+      ⊎ ((i : ℕ) × (i < length a) × (flag present i ≡ true) × Joins (note a i) (note b i) u v
+      × (d′ v ≡ du + note weights i))
 
 -- the least note of the unsettled posts, if it is below "none yet", and its post
 pub record Nearest (posts : ℕ) (d : ℕ → ℕ) (S : ℕ → Bool) (best least : ℕ) : Type 0 where
   pub lower : (y : ℕ) → y < posts → S y ≡ false → least ≤ d y
-  pub which : ((best ≡ posts) × (least ≡ noneYet)) ⊎ ((best < posts) × (S best ≡ false) × (d best ≡ least) × (least < noneYet))
+  pub which : ((best ≡ posts) × (least ≡ noneYet))
+      ⊎ ((best < posts) × (S best ≡ false) × (d best ≡ least) × (least < noneYet))
 
 -- r is the lowest post whose note is "none yet", or the number of posts where every post has a note
 pub record LowestApart (posts : ℕ) (d : ℕ → ℕ) (r : ℕ) : Type 0 where

@@ -11,7 +11,8 @@ pub data On (next : ℕ → ℕ) (k : ℕ) : ℕ → Type 0 where
   first : 0 < k → On next k k
   later : {c : ℕ} → 0 < c → On next k (next c) → On next k c
 
--- each of the first na first ends and nb second ends that is a post is on this post's row, and a row's codes fall, from t at the most
+-- each of the first na first ends and nb second ends that is a post is on this post's row, and a row's codes fall,
+-- from t at the most
 pub record Index (a b : ℕ → ℕ) (posts t na nb : ℕ) (head next : ℕ → ℕ) : Type 0 where
   pub tops : (u : ℕ) → u < posts → head u ≤ t
   pub falls : (c : ℕ) → 0 < c → c ≤ t → next c < c

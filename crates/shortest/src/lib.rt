@@ -1,29 +1,33 @@
-// Least lengths over the present segments of a net, the trees hung by them, and which post is not joined.
-// Each is proved equal to the definition of `net`. Segments come as slices side by side: two ends, what a segment counts for (its length, or 1), and
-// whether it is present. Posts are settled one after the other, the nearest first, along an index of the net; which is the nearest, a ladder of the open
-// posts says: at 256 posts and 2,048 segments some 10,000 steps for a search. Relies on `hanging`, which hangs the posts by the lengths found here.
+// Least lengths over the present segments of a net, the tree hung by them, and which post is not joined. Each is
+// proved equal to the definition of `net`. Segments come as slices side by side: two ends, what a segment counts for,
+// and whether it is present. An index of the ends is made once (`index`) and lent to each search.
+// Posts are settled one after the other, the nearest first; a ladder of the open posts says which is nearest: at 256
+// posts and 2,048 segments some 10,000 steps for a search. Relies on `hanging`, which hangs the posts by the lengths
+// found here.
 ghost use mathlib.Core.Path.{_≡_};
 ghost use mathlib.Core.List.{List, _++_};
 ghost use Prim.Native.Nat.{ℕ, _*_, _<_, _≤_};
 ghost use lib.ListN.{length, drop};
-ghost use Rattle.net.specs.Net.{mostPosts, mostSegments, every, segmentsOf};
-ghost use Rattle.net.specs.Trees.{noneYet, least, leastLengths, shortest, hungFrom};
+ghost use Rattle.net.specs.Net.{mostPosts, mostSegments, every};
+ghost use Rattle.net.specs.Ready.{segmentsBy};
+ghost use Rattle.net.specs.Trees.{noneYet, least, leastLengths, shortest};
 ghost use Rattle.hanging.specs.Lists.{flag, note, Ends, Sides};
 ghost use Rattle.shortest.specs.Notes.{Cleared, Lowered, Offered, Relaxed, LowestApart};
 ghost use Rattle.shortest.specs.Ladder.{Lesser, Ladder, OpenPosts, Written, NearestOn};
 ghost use Rattle.shortest.specs.Rows.{IndexOf, Pushed};
 
 // "none yet", which is larger than any length.
-pub const NONE_YET: u64 = 281474976710656;
+pub const NONE_YET: u64 = net::NONE_YET;
 
-// "Posts 1 to 256", two rungs of a ladder for each, "Segments 0 to 2,048", and the codes of an index: 0, and one for each end.
-pub const MOST_POSTS: usize = 256;
+// "Posts 1 to 256", two rungs of a ladder for each, "Segments 0 to 2,048", and the codes of an index: 0, and one for
+// each end.
+pub const MOST_POSTS: usize = net::POST_PLACES;
 
-pub const MOST_RUNGS: usize = 512;
+pub const MOST_RUNGS: usize = 2 * MOST_POSTS;
 
-pub const MOST_SEGMENTS: usize = 2048;
+pub const MOST_SEGMENTS: usize = net::MOST_SEGMENTS;
 
-pub const MOST_CODES: usize = 4097;
+pub const MOST_CODES: usize = 2 * MOST_SEGMENTS + 1;
 
 // THE LADDER OF THE OPEN POSTS. The lesser of two notes.
 fn lesser(x: u64, y: u64) -> u64
@@ -50,7 +54,8 @@ fn write_up(posts: usize, v: usize, c: u64, ladder: &mut [u64])
     }
 }
 
-// The open post of the least note below "none yet", or `posts` where there is none: down the ladder, to where the note of rung 1 stands.
+// The open post of the least note below "none yet", or `posts` where there is none: down the ladder, to where the note
+// of rung 1 stands.
 fn nearest(posts: usize, ladder: &[u64]) -> usize
     requires { ⌜ (0 < posts) × (2 * posts ≤ length (now ladder)) ⌝ }
     requires { ⌜ Ladder posts (note (now ladder)) ⌝ }
@@ -70,7 +75,8 @@ fn nearest(posts: usize, ladder: &[u64]) -> usize
     p - posts
 }
 
-// LEAST LENGTHS. 0 at the source, "none yet" at the other posts. On the ladder, where "none yet" stands at every rung, 0 is written for the source.
+// LEAST LENGTHS. 0 at the source, "none yet" at the other posts. On the ladder, where "none yet" stands at every
+// rung, 0 is written for the source.
 fn clear(posts: usize, source: usize, dist: &mut [u64], ladder: &mut [u64])
     requires { ⌜ (source < posts) × (posts ≤ length (now dist)) × (2 * posts ≤ length (now ladder)) ⌝ }
     requires { ⌜ Ladder posts (note (now ladder)) ⌝ }
@@ -88,10 +94,12 @@ fn clear(posts: usize, source: usize, dist: &mut [u64], ladder: &mut [u64])
 
 // The note of v falls to c, unless it is that low; on the ladder too, if v is open.
 fn lower(posts: usize, v: usize, c: u64, settled: &[bool], dist: &mut [u64], ladder: &mut [u64])
-    requires { ⌜ (v < posts) × (posts ≤ length (now settled)) × (posts ≤ length (now dist)) × (2 * posts ≤ length (now ladder)) ⌝ }
+    requires { ⌜ (v < posts) × (posts ≤ length (now settled)) × (posts ≤ length (now dist))
+        × (2 * posts ≤ length (now ladder)) ⌝ }
     requires { ⌜ OpenPosts posts (note (now dist)) (flag (now settled)) (note (now ladder)) ⌝ }
     ensures { λ _. ⌜ Lowered v c (note (now (dist .entry))) (note (now (dist .exit))) ⌝ }
-    ensures { λ _. ⌜ OpenPosts posts (note (now (dist .exit))) (flag (now (settled .entry))) (note (now (ladder .exit))) ⌝ }
+    ensures { λ _. ⌜ OpenPosts posts (note (now (dist .exit))) (flag (now (settled .entry)))
+        (note (now (ladder .exit))) ⌝ }
 {
     if c < dist[v] {
         dist[v] = c;
@@ -112,10 +120,12 @@ fn offer(
     dist: &mut [u64],
     ladder: &mut [u64],
 )
-    requires { ⌜ (x < posts) × (y < posts) × (posts ≤ length (now settled)) × (posts ≤ length (now dist)) × (2 * posts ≤ length (now ladder)) ⌝ }
+    requires { ⌜ (x < posts) × (y < posts) × (posts ≤ length (now settled)) × (posts ≤ length (now dist))
+        × (2 * posts ≤ length (now ladder)) ⌝ }
     requires { ⌜ OpenPosts posts (note (now dist)) (flag (now settled)) (note (now ladder)) ⌝ }
     ensures { λ _. ⌜ Offered u x y c (note (now (dist .entry))) (note (now (dist .exit))) ⌝ }
-    ensures { λ _. ⌜ OpenPosts posts (note (now (dist .exit))) (flag (now (settled .entry))) (note (now (ladder .exit))) ⌝ }
+    ensures { λ _. ⌜ OpenPosts posts (note (now (dist .exit))) (flag (now (settled .entry)))
+        (note (now (ladder .exit))) ⌝ }
 {
     if x == u {
         lower(posts, y, c, settled, dist, ladder);
@@ -126,28 +136,32 @@ fn offer(
 }
 
 // Code c goes before the row of x, if x is a post.
-fn push(posts: usize, x: usize, c: usize, head: &mut [u16], next: &mut [u16])
-    requires { ⌜ (posts ≤ length (now head)) × (c < length (now next)) × (c < 65536) ⌝ }
-    ensures { λ _. ⌜ Pushed posts x c (now (head .entry)) (now (next .entry)) (now (head .exit)) (now (next .exit)) ⌝ }
+fn push(posts: usize, x: usize, c: usize, first: &mut [u16], next: &mut [u16])
+    requires { ⌜ (posts ≤ length (now first)) × (c < length (now next)) × (c < 65536) ⌝ }
+    ensures { λ _. ⌜ Pushed posts x c (now (first .entry)) (now (next .entry))
+        (now (first .exit)) (now (next .exit)) ⌝ }
 {
     if x < posts {
-        next[c] = head[x];
-        head[x] = c as u16;
+        next[c] = first[x];
+        first[x] = c as u16;
     } else {
         next[c] = 0;
     }
 }
 
-// The index of a net: the ends of its segments in rows, a row for each post. Made once, it serves every search, whichever segments are present.
-pub fn index(posts: usize, a: &[u16], b: &[u16], head: &mut [u16], next: &mut [u16])
-    requires { ⌜ (posts ≤ length (now head)) × (2 * length (now a) < length (now next)) × (length (now a) ≤ mostSegments) ⌝ }
-    ensures { λ _. ⌜ IndexOf posts (now (a .entry)) (now (b .entry)) (now (head .exit)) (now (next .exit)) ⌝ }
+// The index of a net: the ends of its segments in rows, a row for each post. Made once, it serves every search,
+// whichever segments are present.
+pub fn index(posts: usize, a: &[u16], b: &[u16], first: &mut [u16], next: &mut [u16])
+    requires { ⌜ (posts ≤ length (now first)) × (2 * length (now a) < length (now next))
+        × (length (now a) ≤ mostSegments) ⌝ }
+    ensures indexed { λ _. ⌜ IndexOf posts (now (a .entry)) (now (b .entry))
+        (now (first .exit)) (now (next .exit)) ⌝ }
 {
-    hanging::fill(posts, 0, head);
+    hanging::fill(posts, 0, first);
     let mut i = 0;
     while i < a.len() {
-        push(posts, hanging::at16(a, i), 2 * i + 1, head, next);
-        push(posts, hanging::at16(b, i), 2 * i + 2, head, next);
+        push(posts, hanging::at16(a, i), 2 * i + 1, first, next);
+        push(posts, hanging::at16(b, i), 2 * i + 2, first, next);
         i += 1;
     }
 }
@@ -160,21 +174,24 @@ fn relax(
     b: &[u16],
     weights: &[u32],
     present: &[bool],
-    head: &[u16],
+    first: &[u16],
     next: &[u16],
     settled: &[bool],
     dist: &mut [u64],
     ladder: &mut [u64],
 )
     requires { ⌜ Sides posts (now a) (now b) (now weights) (now present) ⌝ }
-    requires { ⌜ IndexOf posts (now a) (now b) (now head) (now next) ⌝ }
-    requires { ⌜ (u < posts) × (note (now dist) u < noneYet) × (posts ≤ length (now settled)) × (posts ≤ length (now dist)) × (2 * posts ≤ length (now ladder)) ⌝ }
+    requires { ⌜ IndexOf posts (now a) (now b) (now first) (now next) ⌝ }
+    requires { ⌜ (u < posts) × (note (now dist) u < noneYet) × (posts ≤ length (now settled))
+        × (posts ≤ length (now dist)) × (2 * posts ≤ length (now ladder)) ⌝ }
     requires { ⌜ OpenPosts posts (note (now dist)) (flag (now settled)) (note (now ladder)) ⌝ }
-    ensures { λ _. ⌜ Relaxed (now (a .entry)) (now (b .entry)) (now (weights .entry)) (now (present .entry)) u (note (now (dist .entry)) u) (note (now (dist .entry))) (note (now (dist .exit))) ⌝ }
-    ensures { λ _. ⌜ OpenPosts posts (note (now (dist .exit))) (flag (now (settled .entry))) (note (now (ladder .exit))) ⌝ }
+    ensures { λ _. ⌜ Relaxed (now (a .entry)) (now (b .entry)) (now (weights .entry)) (now (present .entry))
+        u (note (now (dist .entry)) u) (note (now (dist .entry))) (note (now (dist .exit))) ⌝ }
+    ensures { λ _. ⌜ OpenPosts posts (note (now (dist .exit))) (flag (now (settled .entry)))
+        (note (now (ladder .exit))) ⌝ }
 {
     let du = dist[u];
-    let mut c = hanging::at16(head, u);
+    let mut c = hanging::at16(first, u);
     while c > 0 {
         let i = (c - 1) / 2;
         if present[i] {
@@ -183,7 +200,7 @@ fn relax(
                 u,
                 hanging::at16(a, i),
                 hanging::at16(b, i),
-                du + hanging::wide(hanging::at32(weights, i)),
+                du + net::plain::wide(hanging::at32(weights, i)),
                 settled,
                 dist,
                 ladder,
@@ -193,7 +210,8 @@ fn relax(
     }
 }
 
-// The least lengths from `source` over the present segments, by the net's index: the nearest post is settled, one after the other.
+// The least lengths from `source` over the present segments, by the net's index: the nearest post is settled, one after
+// the other.
 pub fn search(
     posts: usize,
     source: usize,
@@ -201,14 +219,17 @@ pub fn search(
     b: &[u16],
     weights: &[u32],
     present: &[bool],
-    head: &[u16],
+    first: &[u16],
     next: &[u16],
     dist: &mut [u64],
 )
     requires { ⌜ Sides posts (now a) (now b) (now weights) (now present) ⌝ }
-    requires { ⌜ IndexOf posts (now a) (now b) (now head) (now next) ⌝ }
+    requires { ⌜ IndexOf posts (now a) (now b) (now first) (now next) ⌝ }
     requires { ⌜ (source < posts) × (posts ≤ mostPosts) × (posts ≤ length (now dist)) ⌝ }
-    ensures { λ _. ⌜ now (dist .exit) ≡ least (segmentsOf (now (a .entry)) (now (b .entry)) (now (weights .entry))) (flag (now (present .entry))) (note (now (weights .entry))) posts source ++ drop posts (now (dist .entry)) ⌝ }
+    ensures least_lengths { λ _. ⌜ now (dist .exit)
+        ≡ least (segmentsBy (a .entry) (b .entry) (weights .entry))
+        (flag (now (present .entry))) (note (now (weights .entry))) posts source
+        ++ drop posts (now (dist .entry)) ⌝ }
 {
     let mut settled = [false; MOST_POSTS];
     let mut ladder = [NONE_YET; MOST_RUNGS];
@@ -224,7 +245,7 @@ pub fn search(
             b,
             weights,
             present,
-            head,
+            first,
             next,
             &settled,
             dist,
@@ -234,71 +255,49 @@ pub fn search(
     }
 }
 
-// The same with an index of its own.
-pub fn distances(
-    posts: usize,
-    source: usize,
-    a: &[u16],
-    b: &[u16],
-    weights: &[u32],
-    present: &[bool],
-    dist: &mut [u64],
-)
-    requires { ⌜ Sides posts (now a) (now b) (now weights) (now present) ⌝ }
-    requires { ⌜ (source < posts) × (posts ≤ mostPosts) × (posts ≤ length (now dist)) ⌝ }
-    ensures { λ _. ⌜ now (dist .exit) ≡ least (segmentsOf (now (a .entry)) (now (b .entry)) (now (weights .entry))) (flag (now (present .entry))) (note (now (weights .entry))) posts source ++ drop posts (now (dist .entry)) ⌝ }
-{
-    let mut head = [0u16; MOST_POSTS];
-    let mut next = [0u16; MOST_CODES];
-    index(posts, a, b, &mut head, &mut next);
-    search(posts, source, a, b, weights, present, &head, &next, dist);
-}
-
-// THE TREES. D in `dist`, and the shortest tree, over all segments.
+// THE TREE. D in `dist`, and the shortest tree, over all segments.
 pub fn shortest_tree(
     posts: usize,
     source: usize,
     a: &[u16],
     b: &[u16],
     lengths: &[u32],
+    first: &[u16],
+    next: &[u16],
     dist: &mut [u64],
     tree: &mut [u16],
 )
     requires { ⌜ Ends posts (now a) (now b) every ⌝ }
-    requires { ⌜ (source < posts) × (posts ≤ mostPosts) × (length (now lengths) ≡ length (now a)) × (posts ≤ length (now dist)) × (posts ≤ length (now tree)) ⌝ }
-    ensures { λ _. ⌜ now (dist .exit) ≡ leastLengths (segmentsOf (now (a .entry)) (now (b .entry)) (now (lengths .entry))) every posts source ++ drop posts (now (dist .entry)) ⌝ }
-    ensures { λ _. ⌜ now (tree .exit) ≡ shortest (segmentsOf (now (a .entry)) (now (b .entry)) (now (lengths .entry))) every posts source ++ drop posts (now (tree .entry)) ⌝ }
+    requires { ⌜ IndexOf posts (now a) (now b) (now first) (now next) ⌝ }
+    requires { ⌜ (source < posts) × (posts ≤ mostPosts) × (length (now lengths) ≡ length (now a))
+        × (posts ≤ length (now dist)) × (posts ≤ length (now tree)) ⌝ }
+    ensures least_lengths { λ _. ⌜ now (dist .exit)
+        ≡ leastLengths (segmentsBy (a .entry) (b .entry) (lengths .entry)) every posts source
+        ++ drop posts (now (dist .entry)) ⌝ }
+    ensures hung { λ _. ⌜ now (tree .exit)
+        ≡ shortest (segmentsBy (a .entry) (b .entry) (lengths .entry)) every posts source
+        ++ drop posts (now (tree .entry)) ⌝ }
 {
     let present = [true; MOST_SEGMENTS];
     let m = a.len();
-    distances(posts, source, a, b, lengths, &present[..m], dist);
+    search(
+        posts,
+        source,
+        a,
+        b,
+        lengths,
+        &present[..m],
+        first,
+        next,
+        dist,
+    );
     hanging::hang(posts, a, b, lengths, &present[..m], dist, tree);
-}
-
-// The present segments hung from the source: each post by one that leads one step nearer to it. What their lengths are does not matter.
-pub fn hang_from(
-    posts: usize,
-    source: usize,
-    a: &[u16],
-    b: &[u16],
-    present: &[bool],
-    tree: &mut [u16],
-)
-    requires { ⌜ Ends posts (now a) (now b) (flag (now present)) ⌝ }
-    requires { ⌜ (source < posts) × (posts ≤ mostPosts) × (length (now present) ≡ length (now a)) × (posts ≤ length (now tree)) ⌝ }
-    ensures { λ _. ⌜ ((lengths : List ℕ) → length lengths ≡ length (now (a .entry)) → now (tree .exit) ≡ hungFrom (segmentsOf (now (a .entry)) (now (b .entry)) lengths) posts source (flag (now (present .entry))) ++ drop posts (now (tree .entry))) ⌝ }
-{
-    let ones = [1u32; MOST_SEGMENTS];
-    let mut dist = [0u64; MOST_POSTS];
-    let m = a.len();
-    distances(posts, source, a, b, &ones[..m], present, &mut dist);
-    hanging::hang(posts, a, b, &ones[..m], present, &dist, tree);
 }
 
 // The lowest post whose note is "none yet", or `posts` where every post has a note.
 pub fn lowest_apart(posts: usize, dist: &[u64]) -> usize
     requires { ⌜ posts ≤ length (now dist) ⌝ }
-    ensures { λ r. ⌜ LowestApart posts (note (now (dist .entry))) r ⌝ }
+    ensures lowest { λ r. ⌜ LowestApart posts (note (now (dist .entry))) r ⌝ }
 {
     let mut v = 0;
     while v < posts {

@@ -1,5 +1,5 @@
--- A net that the checks let pass is ready; and what the least lengths of a ready net say of 9: its lowest post that isn't joined, or none.
-use mathlib.Core.Path.{_≡_, refl, sym, _∙_}
+-- What the least lengths of a ready net say of 9: its lowest post that isn't joined, or none.
+use mathlib.Core.Path.{_≡_, refl, _∙_}
 use mathlib.Core.Bool.{true}
 use mathlib.Core.List.{List, _++_}
 use mathlib.Core.Option.{none, some}
@@ -7,23 +7,17 @@ use Prim.Native.Nat.{ℕ, _≤_, _<_}
 use native.Mathlib.Omega.{arith}
 use lib.ListN.{length}
 use Rattle.net.specs.Net.{every, segmentsOf, lengthAt, longest}
-use Rattle.net.specs.Refusals.{refusal, first, joinedLines, checkOf}
+use Rattle.net.specs.Refusals.{refusal, first, joinedLines}
 use Rattle.net.specs.Trees.{leastLengths, joined}
 use Rattle.net.specs.Building.{joinedToSource}
 use Rattle.net.specs.declared.Head.{Head}
-use Rattle.net.specs.declared.Checked.{Checked}
-use Rattle.net.specs.declared.Checked.the-variants.{Sound}
-use Rattle.net.proofs.Checks.{check-sound}
 use Rattle.hanging.specs.Lists.{note}
 use Rattle.shortest.specs.Notes.{LowestApart}
 use Rattle.shortest.proofs.Apart.{apart-none, apart-some}
 use Rattle.hanging.proofs.Measures.{short-segments}
-use Rattle.trees.specs.Ready.{netAt, Ready}
-use Rattle.trees.proofs.Ready.{ready-inside, ready-source, ready-posts, ready-short}
-
--- none of 1 to 7
-pub ready-sound : (head : Head) (a b lengths : List ℕ) {v : Checked} → length b ≡ length a → length lengths ≡ length a → v ≡ checkOf head (segmentsOf a b lengths) → v ≡ Sound → Ready head a b lengths
-ready-sound head a b lengths h k e f = record { b-level = h; lengths-level = k; sound = check-sound head (segmentsOf a b lengths) .0 (sym e ∙ f) }
+use Rattle.net.specs.Ready.{netAt, Ready}
+use Rattle.net.proofs.Ready.{ready-inside, ready-source, ready-posts}
+use Rattle.trees.proofs.Ready.{ready-short}
 
 -- 9: d are the least lengths, z says which is the lowest post without one
 module _ {head : Head} {a b lengths : List ℕ} (r : Ready head a b lengths) {posts source apart : ℕ} (posts-is : posts ≡ head .posts) (source-is : source ≡ head .source) {d : List ℕ} (rest : List ℕ)

@@ -2,26 +2,28 @@
 use mathlib.Core.Path.{_≡_, refl, sym, ap, _∙_}
 use mathlib.Core.Bool.{Bool, true, false}
 use mathlib.Core.List.{List, _++_, append-nil}
-use Prim.Native.Nat.{ℕ, _+_, _≤_, _<_}
+use Prim.Native.Nat.{ℕ, _≤_, _<_}
 use native.Mathlib.Omega.{arith}
 use native.Mathlib.Nat.{le-refl}
 use lib.ListN.{length, getD, take, drop, replicate, drop-of-length-le}
-use Rattle.net.specs.Net.{every, segmentsOf, mostPosts, mostSegments}
-use Rattle.net.specs.Trees.{noneYet, at, belonging, hungFrom, lightest, leastLengths, shortest}
+use Rattle.net.specs.Net.{every, segmentsOf}
+use Rattle.net.specs.Trees.{noneYet, at, belonging, lightest, leastLengths, shortest}
 use Rattle.net.specs.Building.{lightestOf, shortestOf, leastLengthsOf, walkOf, betweenOf, laidOf}
 use Rattle.net.specs.declared.Head.{Head}
-use Rattle.net.proofs.Least.{Inside, inside-part}
-use Rattle.net.proofs.Sound.{inside}
-use Rattle.hanging.specs.Lists.{flag, Ends, Short}
-use Rattle.net.proofs.Segments.{length-segments, segments-are, getD-any}
+use Rattle.net.proofs.Least.{inside-part}
+use Rattle.hanging.specs.Lists.{Ends, Short}
+use Rattle.net.proofs.Segments.{segments-are, getD-any}
 use Rattle.lightest.specs.Marks.{there, Fit}
 use Rattle.lightest.specs.Order.{Sortable}
 use Rattle.lightest.proofs.Fitting.{inside-fit}
 use Rattle.lightest.proofs.Presence.{belonging-every}
+use Rattle.shortest.specs.Rows.{Index}
 use Rattle.shortest.proofs.Trees.{length-first, first-at}
 use Rattle.between.specs.Asked.{Walkable, walkedOf, ThirdTree}
 use Rattle.between.proofs.Nets.{walked-of-net, net-walkable, least-low}
-use Rattle.trees.specs.Ready.{netAt, Ready, AllThere, Worked}
+use Rattle.net.specs.Ready.{netAt, Ready}
+use Rattle.net.proofs.Ready.{ready-count, ready-few, ready-posts, ready-inside}
+use Rattle.trees.specs.Worked.{AllThere, Worked}
 
 -- m marks that are all true
 pub all-there : (m : ℕ) → m ≤ 2048 → AllThere (take m (replicate 2048 true)) m
@@ -31,43 +33,32 @@ all-there m h = record { one-each = length-first 2048 m true h; all-true = λ i 
 pub some-ends : {n : ℕ} {a b : List ℕ} {ok : ℕ → Bool} → Ends n a b every → Ends n a b ok
 some-ends z = record { b-many = z .b-many; few = z .few; a-in = λ i h o. z .a-in i h refl; b-in = λ i h o. z .b-in i h refl }
 
+-- an index by the head's number of posts
+pub index-at : {a b f g : ℕ → ℕ} {posts n t k l : ℕ} → posts ≡ n → Index a b n t k l f g → Index a b posts t k l f g
+index-at e z = rw e z
+
 -- a list of as many entries as are made anew
 pub front-only : (n : ℕ) (g l t : List ℕ) → length l ≡ n → t ≡ g ++ drop n l → t ≡ g
 front-only n g l t e f = let k : length l ≤ n = omega arith in f ∙ rw (drop-of-length-le l k) (append-nil g)
 
 module _ {head : Head} {a b lengths : List ℕ} (r : Ready head a b lengths) where
-  count-is : length (segmentsOf a b lengths) ≡ length a
-  count-is = length-segments a b lengths (r .b-level) (r .lengths-level)
-
-  pub ready-few : length a ≤ mostSegments
-  ready-few = omega (arith, count-is, r .sound .few-segments)
-
-  pub ready-posts : head .posts ≤ mostPosts
-  ready-posts = r .sound .head-sound .posts-sound .few-posts
-
-  pub ready-source : head .source < head .posts
-  ready-source = r .sound .head-sound .source-in
-
-  pub ready-inside : Inside (segmentsOf a b lengths) every (head .posts)
-  ready-inside = inside every (length (segmentsOf a b lengths)) (netAt head a b lengths) (le-refl _) (r .sound)
-
   pub ready-ends : Ends (head .posts) a b every
   ready-ends =
       let s = segments-are a b lengths (r .b-level) (r .lengths-level) in
       record {
         b-many = r .b-level;
-        few = ready-few;
-        a-in = λ i h o. rw (← s .a-is i) (ready-inside .a-in i (omega (arith, count-is)) o);
-        b-in = λ i h o. rw (← s .b-is i) (ready-inside .b-in i (omega (arith, count-is)) o);
+        few = ready-few r;
+        a-in = λ i h o. rw (← s .a-is i) (ready-inside r .a-in i (omega (arith, ready-count r)) o);
+        b-in = λ i h o. rw (← s .b-is i) (ready-inside r .b-in i (omega (arith, ready-count r)) o);
       }
 
   pub ready-short : Short lengths
   ready-short =
       let s = segments-are a b lengths (r .b-level) (r .lengths-level) in
-      record { most = λ i h. rw (← s .length-is i) ((r .sound .segments-sound i (omega (arith, count-is, r .lengths-level)) refl) .not-too-long) }
+      record { most = λ i h. rw (← s .length-is i) ((r .sound .segments-sound i (omega (arith, ready-count r, r .lengths-level)) refl) .not-too-long) }
 
   pub ready-sortable : Sortable lengths
-  ready-sortable = record { few = omega (arith, ready-few, r .lengths-level); short = ready-short .most }
+  ready-sortable = record { few = omega (arith, ready-few r, r .lengths-level); short = ready-short .most }
 
   -- posts and source: the head's as indices
   module _ {posts : ℕ} (posts-is : posts ≡ head .posts) where
@@ -77,21 +68,18 @@ module _ {head : Head} {a b lengths : List ℕ} (r : Ready head a b lengths) whe
     pub fit-at : {present : List Bool} → AllThere present (length a) → Fit posts a b lengths present
     fit-at {present} z =
         rw posts-is
-        (inside-fit (omega (arith, ready-posts)) (omega (arith, ready-few, r .lengths-level)) (sym (r .lengths-level)) (r .b-level ∙ sym (r .lengths-level)) (z .one-each ∙ sym (r .lengths-level))
-        (inside-part (λ i h o. refl) ready-inside))
+        (inside-fit (omega (arith, ready-posts r)) (omega (arith, ready-few r, r .lengths-level)) (sym (r .lengths-level)) (r .b-level ∙ sym (r .lengths-level)) (z .one-each ∙ sym (r .lengths-level))
+        (inside-part (λ i h o. refl) (ready-inside r)))
+
+    -- the belonging marks where all segments are there
+    pub marks-at : {present marks : List Bool} → AllThere present (length a) → marks ≡ belonging (segmentsOf a b lengths) (there present) posts → marks ≡ belonging (segmentsOf a b lengths) every posts
+    marks-at z f = f ∙ belonging-every (fit-at z) (λ j h. z .all-true j (omega (arith, r .lengths-level)))
 
     module _ {source : ℕ} (source-is : source ≡ head .source) where
-      -- the belonging marks, hung from the source, are the lightest tree
-      pub lightest-hung : {present marks : List Bool} (t old : List ℕ) → AllThere present (length a) → length old ≡ head .posts
-          → marks ≡ belonging (segmentsOf a b lengths) (there present) posts
-          → t ≡ hungFrom (segmentsOf a b lengths) posts source (flag marks) ++ drop posts old
-          → t ≡ lightestOf every (netAt head a b lengths)
-      unfolding lightestOf lightest
-      lightest-hung {present} t old z k f g =
-          let all : (j : ℕ) → j < length lengths → there present j ≡ true = λ j h. z .all-true j (omega (arith, r .lengths-level)) in
-          front-only posts _ old t (k ∙ sym posts-is) g
-          ∙ ap (λ l. hungFrom (segmentsOf a b lengths) posts source (flag l)) (f ∙ belonging-every (fit-at z) all)
-          ∙ rw (posts-is, source-is)
+      -- the lightest tree by these is the net's
+      pub lightest-at : {t : List ℕ} → t ≡ lightest (segmentsOf a b lengths) every posts source → t ≡ lightestOf every (netAt head a b lengths)
+      unfolding lightestOf
+      lightest-at e = e ∙ rw (posts-is, source-is)
 
       -- what `shortest_tree` leaves in two lists with an entry for each post
       pub worked-at : {d t : List ℕ} (d₀ t₀ : List ℕ) → length d₀ ≡ head .posts → length t₀ ≡ head .posts

@@ -1,2 +1,3 @@
 -- What the contracts of the trees, and the inner contracts of building and margin, cite. Definitions only.
-pub mod Ready
+pub mod Worked
+pub mod Along

@@ -1,4 +1,4 @@
--- 1 to 4 of a head and 5 to 7 of a segment as the writer and the reader (of `records`) meet them: net's laws of the two tables, over what `first` gives, and
+-- 1 to 4 of a head and 5 to 7 of a segment as the writer and the reader (of `reading`) meet them: net's laws of the two tables, over what `first` gives, and
 -- what a check's answer says of its lines.
 use Prim.Native.Nat.{ℕ, _≤_}
 use mathlib.Core.Path.{_≡_, refl, sym}

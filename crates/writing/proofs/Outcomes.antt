@@ -1,4 +1,4 @@
--- What the contract of `write_array` comes to: two outcomes that it allows are equal; what the answer says in document 01's words; what was written where the
+-- What the contract of `write` and `write_sound` comes to: two outcomes that it allows are equal; what the answer says in document 01's words; what was written where the
 -- answer is Written, and that a sound net is written where the room is long enough. Relies on Sizes.
 use Prim.Native.Nat.{ℕ, _≤_}
 use mathlib.Core.Path.{_≡_, refl, sym, _∙_}
@@ -22,8 +22,8 @@ use Rattle.net.proofs.Faults.{net-sound}
 use Rattle.writing.proofs.Sizes.{both-none, first-none}
 
 -- TWO OUTCOMES ARE EQUAL
-pub write-array-unique : (n : Net) (m : ℕ) (room : List ℕ) (r r′ : WriteAnswer) (x x′ : List ℕ) → Writes n m room r x → Writes n m room r′ x′ → (r ≡ r′) × (x ≡ x′)
-write-array-unique n m room r r′ x x′ w v = (w .answers ∙ sym (v .answers), w .leaves ∙ sym (v .leaves))
+pub write-unique : (n : Net) (m : ℕ) (room : List ℕ) (r r′ : WriteAnswer) (x x′ : List ℕ) → Writes n m room r x → Writes n m room r′ x′ → (r ≡ r′) × (x ≡ x′)
+write-unique n m room r r′ x x′ w v = (w .answers ∙ sym (v .answers), w .leaves ∙ sym (v .leaves))
 
 -- WHAT THE ANSWER SAYS: the definition's result or refusal
 by-refusal : (o : Option Refusal) (size : ℕ) → saysWritten (writeAnswerBy o size) ≡ saidSize o size

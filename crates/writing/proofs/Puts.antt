@@ -6,7 +6,7 @@ use native.Mathlib.Nat.{zero-add, add-zero}
 use native.Mathlib.Omega.{arith}
 use native.Mathlib.Numerals.{add-one}
 use lib.ListN.{length, take, drop, length-append, length-take, length-drop, take-append-drop}
-use lib.Seq.{take-suc, take-all, take-at, drop-at, drop-drop, length-take-le, getD-take}
+use lib.Seq.{take-suc, take-all, take-at, drop-at, drop-drop}
 use Rattle.net.specs.Net.{segmentAt, beyond}
 use Rattle.net.specs.declared.Segment.{Segment}
 use Rattle.net.specs.declared.Head.{Head}
@@ -183,21 +183,11 @@ module _ {room₀ room : List ℕ} {at next i : ℕ} {ss : List Segment} (p : Pu
   pub put-all : length ss ≤ i → room ≡ put at (segmentsWritten ss) room₀
   put-all h = p .wrote .room-is ∙ ap (λ (l : List Segment). put at (segmentsWritten l) room₀) (take-all i ss h)
 
--- the same over the first `count` segments of an array
-module _ (segs : List Segment) (count : ℕ) (few : count ≤ 2048) (size : length segs ≡ 2048) where
-  pub taken-length : length (take count segs) ≡ count
-  taken-length = length-take-le count segs (omega arith)
+-- a turn puts segment i
+module _ {room₀ room : List ℕ} {at next i : ℕ} {ss : List Segment} (p : PutTo room₀ at ss room next i) (fit : SegmentsFit ss at (length room₀)) (h : i < length ss)
+    {s : Segment} (e : s ≡ segmentAt ss i) where
+  pub put-fits : SegmentFits s next (length room)
+  put-fits = rw e (record { few-length = fit .few-lengths i h; room-long = put-room p h (fit .room-long) })
 
-  pub taken-at : (i : ℕ) → i < count → segmentAt (take count segs) i ≡ segmentAt segs i
-  taken-at i h = getD-take count segs i beyond h
-
-  module _ {room₀ room : List ℕ} {at next i : ℕ} (p : PutTo room₀ at (take count segs) room next i) (fit : SegmentsFit (take count segs) at (length room₀)) (h : i < count) where
-    below : i < length (take count segs)
-    below = omega (arith, taken-length)
-
-    pub put-fits : SegmentFits (segmentAt segs i) next (length room)
-    put-fits = rw (← taken-at i h) (record { few-length = fit .few-lengths i below; room-long = put-room p below (fit .room-long) })
-
-    pub put-on : {room′ : List ℕ} {next′ : ℕ} → next′ ≡ next + length (segmentWritten (segmentAt segs i)) → room′ ≡ put next (segmentWritten (segmentAt segs i)) room
-        → PutTo room₀ at (take count segs) room′ next′ (i + 1)
-    put-on e f = put-next p below (fit .room-long) (rw (taken-at i h) e) (rw (taken-at i h) f)
+  pub put-on : {room′ : List ℕ} {next′ : ℕ} → next′ ≡ next + length (segmentWritten s) → room′ ≡ put next (segmentWritten s) room → PutTo room₀ at ss room′ next′ (i + 1)
+  put-on f g = put-next p h (fit .room-long) (rw e at f) (rw e at g)

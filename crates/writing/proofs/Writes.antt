@@ -1,173 +1,116 @@
--- What writing answers and what the room holds afterwards, by the ways out of the code. Relies on Lines, Puts and Sizes.
-use Prim.Native.Nat.{ℕ, _+_, _*_, _<_, _≤_}
-use mathlib.Core.Path.{_≡_, refl, sym, _∙_}
-use mathlib.Core.List.{List, [], _∷_, _++_}
-use mathlib.Core.Option.{Option, none, some}
+-- What writing answers and what the room holds afterwards, by the ways out of the code. Relies on Lines, Puts and Sizes, and on net's Ready.
+use Prim.Native.Nat.{ℕ, _+_, _<_, _≤_}
+use mathlib.Core.Path.{_≡_, refl, sym, ap, _∙_}
+use mathlib.Core.List.{List, _++_}
+use mathlib.Core.Option.{none, some}
 use native.Mathlib.Nat.{zero-add}
 use native.Mathlib.Omega.{arith}
 use lib.ListN.{length, take, length-append}
 use borrow.Author.Tests.{lt-ltb, le-ltb}
-use Rattle.net.specs.Net.{Net, netOf, every}
-use Rattle.net.specs.Refusals.{refusal, first, headLines, allSegmentLines, netLines, checkedOf}
-use Rattle.net.specs.Rules.{NetSound}
+use Rattle.net.specs.Net.{Net, every, segmentsOf}
+use Rattle.net.specs.Ready.{netAt, Ready}
+use Rattle.net.specs.Refusals.{refusal, first, netLines, checkOf}
 use Rattle.net.specs.declared.Segment.{Segment}
 use Rattle.net.specs.declared.Head.{Head}
 use Rattle.net.specs.declared.Refusal.{Refusal}
 use Rattle.net.specs.declared.Checked.{Checked}
 use Rattle.net.specs.declared.Checked.the-variants.{Sound, Refused}
 use Rattle.numbers.specs.Putting.{put}
-use Rattle.writing.specs.Writing.{headWritten, segmentsWritten, netWritten, shortLines, writeRefusal, roomAfter, HeadFits, SegmentsFit, NetFits}
-use Rattle.writing.specs.Answers.{sizedBy, sizedOf, writeAnswerOf}
-use Rattle.writing.specs.declared.Sized.{Sized}
-use Rattle.writing.specs.declared.Sized.the-variants.{Size, Refused as SizeRefused}
+use Rattle.writing.specs.Writing.{headWritten, segmentsWritten, netWritten, shortLines, writeRefusal, roomAfter, HeadFits, SegmentsFit}
+use Rattle.writing.specs.Answers.{writeAnswerOf, Writes}
+use Rattle.writing.specs.declared.WriteAnswer.{WriteAnswer}
 use Rattle.writing.specs.declared.WriteAnswer.the-variants.{Written, Refused as WriteRefused}
-use Rattle.numbers.proofs.Loops.{size-most}
-use Rattle.writing.proofs.Lines.{head-sound, refused-lines, sound-lines}
+use Rattle.writing.proofs.Lines.{refused-lines}
 use Rattle.net.proofs.Faults.{net-sound}
-use Rattle.writing.proofs.Puts.{wrote-more, wrote-first, put-onto, segment-length, taken-length}
+use Rattle.net.proofs.Ready.{ready-sound, ready-count, ready-few, cut-same, cut-level}
+use Rattle.writing.proofs.Puts.{wrote-more, wrote-first, put-onto}
 use Rattle.writing.proofs.Sizes.{first-none, first-some}
 
--- HOW LONG A RECORD CAN BE, by its numbers alone
-segments-most : (ss : List Segment) → length (segmentsWritten ss) ≤ 12 * length ss
-unfolding segmentsWritten
-segments-most [] = omega arith
-segments-most (s ∷ ss) =
-    let e = segments-most ss in
-    simp length-append (omega (arith, segment-length s, size-most (s .a), size-most (s .b), size-most (s .length)))
+-- A REFUSAL OF 1 TO 7
+module _ (n : Net) (m : ℕ) {r : Refusal} (e : first (netLines every m n) ≡ some r) where
+  refused-by : (room : ℕ) → writeRefusal n m room ≡ some r
+  unfolding writeRefusal
+  refused-by room = first-some (netLines every m n) _ r e
 
-module _ (head : Head) (count : ℕ) (segs : List Segment) where
-  abbrev net : Net
-  net = netOf head count segs
+  refused-writes : (l : List ℕ) → Writes n m l (WriteRefused r) l
+  unfolding writeAnswerOf roomAfter
+  refused-writes l = record { answers = rw (refused-by (length l)); leaves = rw (refused-by (length l)) }
 
+-- THREE LISTS OF ANY LENGTHS: the check refuses, or their common front is ready and is written
+module _ (head : Head) (a b l : List ℕ) {v : Checked} (k : v ≡ checkOf head (segmentsOf a b l)) where
+  pub check-refuses : {r : Refusal} (room : List ℕ) → v ≡ Refused r → Writes (netAt head a b l) (length (segmentsOf a b l)) room (WriteRefused r) room
+  unfolding checkOf
+  check-refuses {r} room f = refused-writes (netAt head a b l) (length (segmentsOf a b l)) (refused-lines _ v r k f) room
+
+  pub front-ready : {m : ℕ} → m ≡ length (segmentsOf a b l) → v ≡ Sound → Ready head (take m a) (take m b) (take m l)
+  front-ready e f =
+      let c = cut-level a b l e in
+      ready-sound head _ _ _ (c .1 ∙ sym (c .0)) (c .2 ∙ sym (c .0)) (k ∙ ap (λ (ss : List Segment). checkOf head ss) (sym (cut-same a b l e))) f
+
+pub front-writes : (head : Head) (a b l : List ℕ) {m : ℕ} → m ≡ length (segmentsOf a b l) → {room after : List ℕ} {r : WriteAnswer}
+    → Writes (netAt head (take m a) (take m b) (take m l)) (length (segmentsOf (take m a) (take m b) (take m l))) room r after
+    → Writes (netAt head a b l) (length (segmentsOf a b l)) room r after
+front-writes head a b l e w = rw (cut-same a b l e) at w
+
+-- A NET THAT IS READY
+module _ {head : Head} {a b l : List ℕ} (z : Ready head a b l) where
   abbrev ss : List Segment
-  ss = take count segs
+  ss = segmentsOf a b l
 
-  -- the lines of 1 to 7 are those of the head and those of the segments
-  lines-apart : netLines every count net ≡ headLines head count ++ allSegmentLines every (head .posts) ss
-  unfolding netLines
-  lines-apart = refl
+  abbrev net : Net
+  net = netAt head a b l
 
-  -- WAYS OUT: a refusal of the head
-  module _ (r : Refusal) (room : ℕ) (e : first (netLines every count net) ≡ some r) where
-    refused-by : writeRefusal net count room ≡ some r
-    unfolding writeRefusal
-    refused-by = first-some (netLines every count net) _ r e
+  written-is : netWritten net ≡ headWritten head (length a) ++ segmentsWritten ss
+  unfolding netWritten
+  written-is = ap (λ (m : ℕ). headWritten head m ++ segmentsWritten ss) (ready-count z)
 
-    pub refused-answer : WriteRefused r ≡ writeAnswerOf net count room
-    unfolding writeAnswerOf
-    refused-answer = rw refused-by
+  pub head-fits : {room : ℕ} → length (headWritten head (length a)) ≤ room → HeadFits head (length a) room
+  head-fits h =
+      let s = z .sound .head-sound in
+      let f = s .posts-sound .few-posts in
+      let g = s .source-in in
+      let p = s .small-p in
+      let q = s .small-q in
+      let m = ready-few z in
+      record {
+        few-posts = omega arith;
+        few-source = omega arith;
+        few-p = omega arith;
+        few-q = omega arith;
+        few-count = omega arith;
+        room-long = h;
+      }
 
-  pub refused-room : (r : Refusal) (l : List ℕ) → first (netLines every count net) ≡ some r → l ≡ roomAfter net count l
-  unfolding roomAfter
-  refused-room r l e = rw (refused-by r (length l) e)
+  pub segments-fit : {at room : ℕ} → at + length (segmentsWritten ss) ≤ room → SegmentsFit ss at room
+  segments-fit h = record { few-lengths = λ i g. (let s = (z .sound .segments-sound i g refl) .not-too-long in omega arith); room-long = h }
 
-  pub head-refuses : (v : Checked) (r : Refusal) → v ≡ checkedOf (first (headLines head count)) → v ≡ Refused r → first (netLines every count net) ≡ some r
-  head-refuses v r e f = rw lines-apart (first-some (headLines head count) _ r (refused-lines _ v r e f))
+  -- the last line of refusals is 18
+  last-line : (room : ℕ) → writeRefusal net (length ss) room ≡ first (shortLines room (length (netWritten net)))
+  unfolding writeRefusal
+  last-line room = first-none (netLines every (length ss) net) _ ((net-sound every (length ss) net) .1 (z .sound))
 
-  module _ (v : Checked) (e : v ≡ checkedOf (first (headLines head count))) (f : v ≡ Sound) where
-    head-none : first (headLines head count) ≡ none
-    head-none = sound-lines _ v e f
+  too-short : (room : ℕ) → room < length (netWritten net) → writeRefusal net (length ss) room ≡ some (refusal 18 0)
+  unfolding shortLines first
+  too-short room h = last-line room ∙ rw (lt-ltb _ _ h)
 
-    pub count-few : count ≤ 2048
-    count-few = (head-sound head count head-none) .1
+  long-enough : (room : ℕ) → length (netWritten net) ≤ room → writeRefusal net (length ss) room ≡ none
+  unfolding shortLines first
+  long-enough room h = last-line room ∙ rw (le-ltb room (length (netWritten net)) h)
 
-    pub segments-refuse : (w : Sized) (r : Refusal) → w ≡ sizedOf (head .posts) ss → w ≡ SizeRefused r → first (netLines every count net) ≡ some r
-    unfolding sizedOf
-    segments-refuse w r g h = rw lines-apart (first-none (headLines head count) _ head-none ∙ go (first (allSegmentLines every (head .posts) ss)) g)
-      where
-        go : (o : Option Refusal) → w ≡ sizedBy o (length (segmentsWritten ss)) → o ≡ some r
-        go none g = let z : _≡_ {A = ℕ} 0 1 = cc in absurd (omega arith)
-        go (some q) g = cc
+  -- the record has `whole` bytes
+  module _ (lent : List ℕ) {whole : ℕ} (e : whole ≡ length (headWritten head (length a)) + length (segmentsWritten ss)) where
+    is-length : whole ≡ length (netWritten net)
+    is-length = e ∙ sym (rw (written-is, length-append))
 
-    pub segments-pass : (w : Sized) (size : ℕ) → w ≡ sizedOf (head .posts) ss → w ≡ Size size → NetFits net count size
-    unfolding sizedOf
-    segments-pass w size g h = go (first (allSegmentLines every (head .posts) ss)) refl
-      where
-        go : (o : Option Refusal) → first (allSegmentLines every (head .posts) ss) ≡ o → NetFits net count size
-        go none q =
-            let k : w ≡ Size (length (segmentsWritten ss)) = g ∙ rw q in
-            record { not-refused = rw lines-apart (first-none (headLines head count) _ head-none ∙ q); size-is = cc }
-        go (some r) q =
-            let k : w ≡ SizeRefused r = g ∙ rw q in
-            let z : _≡_ {A = ℕ} 0 1 = cc in absurd (omega arith)
+    pub short-writes : length lent < whole → Writes net (length ss) lent (WriteRefused (refusal 18 0)) lent
+    unfolding writeAnswerOf roomAfter
+    short-writes h = let s = too-short (length lent) (omega (arith, is-length)) in record { answers = rw s; leaves = rw s }
 
-  -- A NET THAT IS NOT REFUSED BY 1 TO 7
-  module _ (size : ℕ) (array : length segs ≡ 2048) (fits : NetFits net count size) where
-    sound : NetSound every count net
-    sound = (net-sound every count net) .0 (fits .not-refused)
-
-    pub sound-few : count ≤ 2048
-    sound-few = (sound) .few-segments
-
-    pub size-few : size ≤ 24576
-    size-few = let e = fits .size-is in omega (arith, sound-few, segments-most ss, taken-length segs count sound-few array)
-
-    written-is : netWritten net ≡ headWritten head count ++ segmentsWritten ss
-    unfolding netWritten
-    written-is = rw (taken-length segs count sound-few array)
-
-    pub written-length : length (netWritten net) ≡ length (headWritten head count) + size
-    written-length = rw (written-is, length-append, fits .size-is)
-
-    pub head-fits : {room : ℕ} → length (headWritten head count) ≤ room → HeadFits head count room
-    head-fits h =
-        let s = (sound) .head-sound in
-        let f = s .posts-sound .few-posts in
-        let g = s .source-in in
-        let p = s .small-p in
-        let q = s .small-q in
-        let m = sound-few in
-        record {
-          few-posts = omega arith;
-          few-source = omega arith;
-          few-p = omega arith;
-          few-q = omega arith;
-          few-count = omega arith;
-          room-long = h;
-        }
-
-    pub segments-fit : {at room : ℕ} → at + size ≤ room → SegmentsFit ss at room
-    segments-fit h =
-        let e = fits .size-is in
-        record {
-          few-lengths = λ i l. (let s = ((sound) .segments-sound i l refl) .not-too-long in omega arith);
-          room-long = omega arith;
-        }
-
-    -- the last line of refusals is 18
-    last-line : (room : ℕ) → writeRefusal net count room ≡ first (shortLines room (length (netWritten net)))
-    unfolding writeRefusal
-    last-line room = first-none (netLines every count net) _ (fits .not-refused)
-
-    too-short : (room : ℕ) → room < length (netWritten net) → writeRefusal net count room ≡ some (refusal 18 0)
-    unfolding shortLines first
-    too-short room h = last-line room ∙ rw (lt-ltb _ _ h)
-
-    long-enough : (room : ℕ) → length (netWritten net) ≤ room → writeRefusal net count room ≡ none
-    unfolding shortLines first
-    long-enough room h = last-line room ∙ rw (le-ltb room (length (netWritten net)) h)
-
-    module _ (whole : ℕ) (whole-is : whole ≡ length (headWritten head count) + size) (l : List ℕ) where
-      is-length : whole ≡ length (netWritten net)
-      is-length = whole-is ∙ sym written-length
-
-      pub short-answer : length l < whole → WriteRefused (refusal 18 0) ≡ writeAnswerOf net count (length l)
-      unfolding writeAnswerOf
-      short-answer h = rw (too-short (length l) (omega (arith, is-length)))
-
-      pub short-room : length l < whole → l ≡ roomAfter net count l
-      unfolding roomAfter
-      short-room h = rw (too-short (length l) (omega (arith, is-length)))
-
-      pub long-answer : whole ≤ length l → Written whole ≡ writeAnswerOf net count (length l)
-      unfolding writeAnswerOf
-      long-answer h = rw (long-enough (length l) (omega (arith, is-length)), is-length)
-
-      pub long-room : whole ≤ length l → {at : ℕ} {x y : List ℕ} → at ≡ length (headWritten head count) → x ≡ put 0 (headWritten head count) l
-          → y ≡ put at (segmentsWritten ss) x → y ≡ roomAfter net count l
-      unfolding roomAfter
-      long-room h e f g =
-          let n = fits .size-is in
-          let w₁ = wrote-first (headWritten head count) (omega arith) (e ∙ sym (zero-add _)) f in
-          let w₂ = wrote-more w₁ (segmentsWritten ss) (omega arith) refl g in
-          rw (long-enough (length l) (omega (arith, is-length)), written-is) (w₂ .room-is ∙ put-onto (headWritten head count ++ segmentsWritten ss) l)
+    pub long-writes : whole ≤ length lent → {at : ℕ} {x y : List ℕ} → at ≡ length (headWritten head (length a)) → x ≡ put 0 (headWritten head (length a)) lent
+        → y ≡ put at (segmentsWritten ss) x → Writes net (length ss) lent (Written whole) y
+    unfolding writeAnswerOf roomAfter
+    long-writes h f g k =
+        let s = long-enough (length lent) (omega (arith, is-length)) in
+        let w₁ = wrote-first (headWritten head (length a)) (omega arith) (f ∙ sym (zero-add _)) g in
+        let w₂ = wrote-more w₁ (segmentsWritten ss) (omega arith) refl k in
+        record { answers = rw (s, is-length); leaves = rw (s, written-is) (w₂ .room-is ∙ put-onto (headWritten head (length a) ++ segmentsWritten ss) lent) }

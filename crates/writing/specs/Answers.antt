@@ -1,17 +1,13 @@
--- What the answer of writing says in document 01's words: "either a result or a refusal with its number and its place". The contracts of the code are
--- equations with these. Relies on `Writing`.
+-- What the answer of writing says in document 01's words: "either a result or a refusal with its number and its
+-- place". The contracts of the code are equations with these. Relies on `Writing`.
 use Prim.Native.Nat.{ℕ}
 use mathlib.Core.Path.{_≡_}
 use mathlib.Core.List.{List}
 use mathlib.Core.Option.{Option, none, some}
 use lib.ListN.{length}
-use Rattle.net.specs.Net.{Net, every}
-use Rattle.net.specs.Refusals.{first, allSegmentLines}
-use Rattle.net.specs.declared.Segment.{Segment}
+use Rattle.net.specs.Net.{Net}
 use Rattle.net.specs.declared.Refusal.{Refusal}
-use Rattle.writing.specs.Writing.{segmentsWritten, netWritten, writeRefusal, roomAfter}
-use Rattle.writing.specs.declared.Sized.{Sized}
-use Rattle.writing.specs.declared.Sized.the-variants.{Size, Refused as SizeRefused}
+use Rattle.writing.specs.Writing.{netWritten, writeRefusal, roomAfter}
 use Rattle.writing.specs.declared.WriteAnswer.{WriteAnswer}
 use Rattle.writing.specs.declared.WriteAnswer.the-variants.{Written, Refused as WriteRefused}
 
@@ -19,14 +15,6 @@ use Rattle.writing.specs.declared.WriteAnswer.the-variants.{Written, Ref
 pub data Said (X : Type 0) : Type 0 where
   result : X → Said X
   refusal-of : Refusal → Said X
-
--- what some segments take, or 5, 6 or 7
-abbrev pub sizedBy : Option Refusal → ℕ → Sized
-sizedBy none size = Size size
-sizedBy (some r) size = SizeRefused r
-
-unfoldable pub sizedOf : ℕ → List Segment → Sized
-sizedOf posts ss = sizedBy (first (allSegmentLines every posts ss)) (length (segmentsWritten ss))
 
 -- the record's length, or a refusal
 abbrev pub writeAnswerBy : Option Refusal → ℕ → WriteAnswer

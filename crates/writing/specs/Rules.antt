@@ -1,5 +1,6 @@
--- Writing a record as rules, one constructor for each way out, without tests and without an order of work: each says that nothing before it holds.
--- proofs/RuledWriting proves that every net has an answer by these rules, that it has no other, and that `Writing` computes it.
+-- Writing a record as rules, one constructor for each way out, without tests and without an order of work: each says
+-- that nothing before it holds. proofs/RuledWriting proves that every net has an answer by these rules, that it has
+-- no other, and that `Writing` computes it.
 use Prim.Native.Nat.{ℕ, _<_, _≤_}
 use mathlib.Core.Option.{Option, none, some}
 use lib.ListN.{length}

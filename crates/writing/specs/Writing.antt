@@ -1,9 +1,9 @@
--- Writing a record: "post count, source, p, q, segment count, then for each segment its two posts in the order given and its length", each number as
--- the crate `numbers` has it; its refusals, "Writing: 1 to 7, then 18", and the room afterwards. Relies on `numbers` and on net's lines of refusals.
+-- Writing a record: "post count, source, p, q, segment count, then for each segment its two posts in the order given
+-- and its length", each number as the crate `numbers` has it; its refusals, "Writing: 1 to 7, then 18", and the room
+-- afterwards. Relies on `numbers` and on net's lines of refusals.
 use Prim.Native.Nat.{ℕ, _+_, _<_, _≤_}
 use mathlib.Core.List.{List, [], _∷_, _++_}
 use mathlib.Core.Option.{Option, none, some}
-use mathlib.Core.Path.{_≡_}
 use lib.Dec.{ltb}
 use lib.ListN.{length}
 use Rattle.net.specs.Net.{Net, every, lengthAt}
@@ -15,7 +15,8 @@ use Rattle.numbers.specs.Numbers.{mostNumbers, written}
 use Rattle.numbers.specs.Putting.{onto}
 
 unfoldable pub headWritten : Head → ℕ → List ℕ
-headWritten h count = written (h .posts) ++ (written (h .source) ++ (written (h .p) ++ (written (h .q) ++ written count)))
+headWritten h count =
+    written (h .posts) ++ (written (h .source) ++ (written (h .p) ++ (written (h .q) ++ written count)))
 
 unfoldable pub segmentWritten : Segment → List ℕ
 segmentWritten s = written (s .a) ++ (written (s .b) ++ written (s .length))
@@ -60,8 +61,3 @@ pub record SegmentFits (s : Segment) (at room : ℕ) : Type 0 where
 pub record SegmentsFit (ss : List Segment) (at room : ℕ) : Type 0 where
   pub few-lengths : (i : ℕ) → i < length ss → lengthAt ss i < mostNumbers
   pub room-long : at + length (segmentsWritten ss) ≤ room
-
--- the net is not refused by 1 to 7, and `size` is what its segments take
-pub record NetFits (n : Net) (m size : ℕ) : Type 0 where
-  pub not-refused : first (netLines every m n) ≡ none
-  pub size-is : size ≡ length (segmentsWritten (n .segments))

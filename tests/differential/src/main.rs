@@ -9,7 +9,8 @@
 //! ```
 //!
 //! PROGRAM is run once per record, which it gets on standard input; what it
-//! prints must be, byte for byte, what the reference prints. `--library` compares
+//! prints must be, byte for byte, what the reference prints, and its exit status
+//! must be 0. `--library` compares
 //! the static library instead, every function of it, if the feature `library` is
 //! on. `--served` does so through SERVER, a program that serves these functions
 //! as `serve.c` says. `--stand-in` compares functions made from the reference, to test the

@@ -1,8 +1,8 @@
 //! A program as subject: run once per record, through its standard input and
-//! output.
+//! output. It always ends with status 0, refused or not.
 
 use std::io::{self, ErrorKind, Read, Write};
-use std::process::{Command, Stdio};
+use std::process::{Command, ExitStatus, Stdio};
 
 use reference::program::planned;
 use reference::program_output;
@@ -22,9 +22,8 @@ impl Program {
         Program { path: path.into() }
     }
 
-    /// What the program prints for this input. That it was ended by a signal
-    /// is an error; its exit status doesn't matter.
-    pub fn output(&self, input: &[u8]) -> io::Result<Vec<u8>> {
+    /// What the program prints for this input, and how it ends.
+    pub fn output(&self, input: &[u8]) -> io::Result<(Vec<u8>, ExitStatus)> {
         let mut child = Command::new(&self.path)
             .stdin(Stdio::piped())
             .stdout(Stdio::piped())
@@ -43,10 +42,7 @@ impl Program {
             _ => {}
         }
         read?;
-        if status.code().is_none() {
-            return Err(io::Error::other(format!("ended by {status}")));
-        }
-        Ok(output)
+        Ok((output, status))
     }
 }
 
@@ -55,14 +51,17 @@ impl Subject for Program {
         &self.path
     }
 
-    /// Compares what is printed. The trees that are held to the bounds are the
-    /// reference's, and the program's are the same then.
+    /// Compares what is printed, and the exit status. The trees that are held to
+    /// the bounds are the reference's, and the program's are the same then.
     fn compare(&self, case: &Case, counts: &mut Counts) -> Result<(), Difference> {
         let expected = program_output(&case.record);
-        let got = match self.output(&case.record) {
-            Ok(output) => output,
+        let (got, status) = match self.output(&case.record) {
+            Ok(ended) => ended,
             Err(error) => return Err(Difference::new("program", expected, error)),
         };
+        if !status.success() {
+            return Err(Difference::new("program", "exit status: 0", status));
+        }
         if got != expected.as_bytes() {
             let got = String::from_utf8_lossy(&got);
             return Err(Difference::new("program", expected, got));

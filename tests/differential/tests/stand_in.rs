@@ -1,5 +1,8 @@
 //! The comparison itself: it passes what is right and catches every slip.
 
+use std::fs;
+use std::os::unix::fs::symlink;
+use std::path::Path;
 use std::process::{Command, Output};
 
 fn differential(way: &str, arguments: &[&str]) -> Output {
@@ -10,12 +13,17 @@ fn differential(way: &str, arguments: &[&str]) -> Output {
         .expect("the comparison runs")
 }
 
-fn compared(way: &str, cases: &str) -> (Option<i32>, String) {
-    let stand_in = env!("CARGO_BIN_EXE_stand_in");
-    let arguments = [stand_in, "--cases", cases, "--seed", "5", "--threads", "1"];
+const STAND_IN: &str = env!("CARGO_BIN_EXE_stand_in");
+
+fn compared_program(program: &str, way: &str, cases: &str) -> (Option<i32>, String) {
+    let arguments = [program, "--cases", cases, "--seed", "5", "--threads", "1"];
     let output = differential(way, &arguments);
     let text = String::from_utf8(output.stdout).expect("text");
     (output.status.code(), text)
+}
+
+fn compared(way: &str, cases: &str) -> (Option<i32>, String) {
+    compared_program(STAND_IN, way, cases)
 }
 
 #[test]
@@ -41,6 +49,7 @@ fn every_slip_is_caught() {
         "Silent",
         "Cut",
         "Crash",
+        "Status",
     ] {
         let (status, text) = compared(slip, "0");
         assert_eq!(status, Some(1), "{slip}: {text}");
@@ -48,6 +57,45 @@ fn every_slip_is_caught() {
             text.contains("DIFFERENCE (program) in fixed input"),
             "{slip}"
         );
+    }
+}
+
+#[test]
+fn a_wrong_exit_status_is_shown() {
+    let (status, text) = compared("Status", "0");
+    assert_eq!(status, Some(1), "{text}");
+    let shown = "expected:\nexit status: 0\ngot:\nexit status: 1\n";
+    assert!(text.contains(shown), "{text}");
+}
+
+/// The command `plan` in a folder where the stand-in takes the program's place,
+/// and that of what runs it.
+fn plan_of_the_stand_in() -> String {
+    let command = Path::new(env!("CARGO_MANIFEST_DIR")).join("../../plan");
+    let text = fs::read_to_string(&command).expect("the command is there");
+    let named = text
+        .lines()
+        .find_map(|line| line.strip_prefix("program=$here/"));
+    let folder = Path::new(env!("CARGO_TARGET_TMPDIR")).join("plan_of_the_stand_in");
+    let _ = fs::remove_dir_all(&folder);
+    for program in [named.expect("plan names its program"), "tools/x86-64"] {
+        let program = folder.join(program);
+        fs::create_dir_all(program.parent().expect("a folder")).expect("made");
+        symlink(STAND_IN, program).expect("linked");
+    }
+    symlink(command, folder.join("plan")).expect("linked");
+    let plan = folder.join("plan");
+    plan.to_str().expect("a plain path").to_owned()
+}
+
+#[test]
+fn the_command_plan_hands_on_output_and_status() {
+    let plan = plan_of_the_stand_in();
+    let (status, text) = compared_program(&plan, "", "0");
+    assert_eq!(status, Some(0), "{text}");
+    for wrong in ["Status", "Silent"] {
+        let (status, text) = compared_program(&plan, wrong, "0");
+        assert_eq!(status, Some(1), "{wrong}: {text}");
     }
 }
 

@@ -259,7 +259,13 @@ lay-path-returns-2 : (t : ℕ) → lay-path-lts.Need-returns-2 (
   try-from-reads.Asked,
   try-from-reads.Learnt,
 ) (lay-path-at t) lay-path.Post
-lay-path-returns-2 t c = λ g dir. lay-far dir _ _ _ _ _ _ (c .before .before .before .before .before .before .before .before .before .before .before .before .before .before .before .before .before .before .before .before .before .note-at .ensures) (c .before .before .before .before .before .before .before .before .before .before .before .before .before .before .before .before .before .before .before .note-at2 .ensures) (c .before .before .before .before .before .before .before .before .before .before .before .before .before .before .before .before .before .before .before .before .before .before .if1 .left) (c .before .before .before .before .before .before .before .before .before .before .before .before .before .before .before .before .before .before .if2 .taken) _ _ _ _ (c .before .before .before .before .before .before .before .before .before .before .before .before .before .before .before .before .before .entry-at .ensures) (c .before .before .before .before .before .before .before .before .before .before .before .before .before .before .before .before .wide .ensures .0) (c .before .before .before .before .before .before .before .before .before .before .before .before .before .before .before .other-end .ensures) (c .before .before .before .before .before .before .before .length-at .ensures) _ _ (c .before .before .before .before .before .before .before .before .before .before .before .before .lay-path .ensures g dir) (c .before .before .before .before .try-from .ensures g)
+lay-path-returns-2 t c = λ g dir. lay-far dir _ _ _ _ _ _ (c .before .before .before .before .before .before .before .before .before .before .before .before .before .before .before .before .before .before .before .before .before .note-at .ensures)
+    (c .before .before .before .before .before .before .before .before .before .before .before .before .before .before .before .before .before .before .before .note-at2 .ensures)
+    (c .before .before .before .before .before .before .before .before .before .before .before .before .before .before .before .before .before .before .before .before .before .before .if1 .left)
+    (c .before .before .before .before .before .before .before .before .before .before .before .before .before .before .before .before .before .before .if2 .taken) _ _ _ _
+    (c .before .before .before .before .before .before .before .before .before .before .before .before .before .before .before .before .before .entry-at .ensures)
+    (c .before .before .before .before .before .before .before .before .before .before .before .before .before .before .before .before .wide .ensures .0) (c .before .before .before .before .before .before .before .before .before .before .before .before .before .before .before .other-end .ensures)
+    (c .before .before .before .before .before .before .before .length-at .ensures) _ _ (c .before .before .before .before .before .before .before .before .before .before .before .before .lay-path .ensures g dir) (c .before .before .before .before .try-from .ensures g)
 
 lay-path-same-length-3 : (t : ℕ) → lay-path-lts.Need-same-length-3 (
   note-at-reads.Asked,

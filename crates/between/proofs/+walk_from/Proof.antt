@@ -100,7 +100,8 @@ walk-from-loop-holds : (t : ℕ) → walk-from-lts.Need-loop-holds (
   walk-from-below t,
   walk-from.Post,
 ) (walk-from-at t) walk-from.Post walk-from-Inv-loop walk-from-μ-loop
-walk-from-loop-holds t c = let w = c .before .before .before .before .before .before .before .before .before .before .before .before .before .before .before .before .before .before .before .pre .1 in along-start w (c .before .before .before .before .before .before .before .before .if1 .left) (c .before .before .before .before .before .enter-post .ensures _ (walking-enters w)) _ (c .entry-at .ensures)
+walk-from-loop-holds t c = let w = c .before .before .before .before .before .before .before .before .before .before .before .before .before .before .before .before .before .before .before .pre .1 in along-start w (c .before .before .before .before .before .before .before .before .if1 .left)
+    (c .before .before .before .before .before .enter-post .ensures _ (walking-enters w)) _ (c .entry-at .ensures)
 
 walk-from-wide-requires : (t : ℕ) → walk-from-lts.Need-wide-requires (
   enter-post-reads.Asked,
@@ -212,7 +213,19 @@ walk-from-walk-from-requires : (t : ℕ) → walk-from-lts.Need-walk-from-requir
   walk-from-below t,
   walk-from.Post,
 ) (walk-from-at t) walk-from.Post walk-from-Inv-loop walk-from-μ-loop
-walk-from-walk-from-requires t c κs = (omega (arith, c .before .before .before .before .before .before .before .before .before .before .before .before .before .before .before .before .before .before .before .before .before .before .before .before .before .before .before .before .before .before .before .before .before .before .pre .0, c .before .before .before .before .before .before .before .before .before .before .before .before .before .before .before .before .before .before .before .before .before .before .before .if1 .left), turn-asks (c .before .before .before .before .before .before .before .before .before .before .before .before .before .before .before .before .before .before .before .before .before .before .before .before .before .before .before .before .before .before .before .before .before .before .pre .1) (c .before .before .before .before .before .before .before .before .before .before .before .before .before .before .loop .inv) (c .before .before .before .before .before .before .before .before .before .before .before .before .before .loop-test .taken) _ _ (c .before .before .before .before .before .before .before .before .before .before .before .before .wide .ensures .0) (c .before .before .before .before .before .before .before .before .before .before .before .entry-at2 .ensures) _ _ (c .before .before .before .before .before .before .before .before .before .before .wide2 .ensures .0) (c .before .before .before .before .before .before .before .before .before .length-at .ensures) _ _ (c .before .before .before .before .before .before .try-from .ensures _))
+walk-from-walk-from-requires t c
+    κs = (
+      omega (
+        arith,
+        c .before .before .before .before .before .before .before .before .before .before .before .before .before .before .before .before .before .before .before .before .before .before .before .before .before .before .before .before .before .before .before .before .before .before
+            .pre .0,
+        c .before .before .before .before .before .before .before .before .before .before .before .before .before .before .before .before .before .before .before .before .before .before .before .if1 .left,
+      ),
+      turn-asks (c .before .before .before .before .before .before .before .before .before .before .before .before .before .before .before .before .before .before .before .before .before .before .before .before .before .before .before .before .before .before .before .before .before .before .pre .1)
+          (c .before .before .before .before .before .before .before .before .before .before .before .before .before .before .loop .inv) (c .before .before .before .before .before .before .before .before .before .before .before .before .before .loop-test .taken) _ _
+          (c .before .before .before .before .before .before .before .before .before .before .before .before .wide .ensures .0) (c .before .before .before .before .before .before .before .before .before .before .before .entry-at2 .ensures) _ _
+          (c .before .before .before .before .before .before .before .before .before .before .wide2 .ensures .0) (c .before .before .before .before .before .before .before .before .before .length-at .ensures) _ _ (c .before .before .before .before .before .before .try-from .ensures _),
+    )
 
 walk-from-add-laid : (t : ℕ) → walk-from-lts.Need-add-laid (
   enter-post-reads.Asked,
@@ -228,7 +241,16 @@ walk-from-add-laid : (t : ℕ) → walk-from-lts.Need-add-laid (
   walk-from-below t,
   walk-from.Post,
 ) (walk-from-at t) walk-from.Post walk-from-Inv-loop walk-from-μ-loop
-walk-from-add-laid t c = omega (arith, turn-fits (c .before .before .before .before .before .before .before .before .before .before .before .before .before .before .before .before .before .before .before .before .before .before .before .before .before .before .before .before .before .before .before .before .before .before .before .before .before .before .before .pre .1) (c .before .before .before .before .before .before .before .before .before .before .before .before .before .before .before .before .before .before .before .loop .inv) (c .before .before .before .before .before .before .before .before .before .before .before .before .before .before .before .before .before .before .loop-test .taken) _ _ (c .before .before .before .before .before .before .before .before .before .before .before .before .before .before .before .before .before .wide .ensures .0) (c .before .before .before .before .before .before .before .before .before .before .before .before .before .before .before .before .entry-at2 .ensures) _ _ (c .before .before .before .before .before .before .before .before .before .before .before .before .before .before .before .wide2 .ensures .0) (c .before .before .before .before .before .before .before .before .before .before .before .before .before .before .length-at .ensures) _ _ (c .before .before .before .before .before .before .before .before .before .before .before .try-from .ensures _) _ _ _ (c .before .before .before .before .walk-from .ensures))
+walk-from-add-laid t c = omega (
+  arith,
+  turn-fits (c .before .before .before .before .before .before .before .before .before .before .before .before .before .before .before .before .before .before .before .before .before .before .before .before .before .before .before .before .before .before .before .before .before .before .before
+      .before .before .before .before .pre .1) (c .before .before .before .before .before .before .before .before .before .before .before .before .before .before .before .before .before .before .before .loop .inv)
+      (c .before .before .before .before .before .before .before .before .before .before .before .before .before .before .before .before .before .before .loop-test .taken) _ _
+      (c .before .before .before .before .before .before .before .before .before .before .before .before .before .before .before .before .before .wide .ensures .0)
+      (c .before .before .before .before .before .before .before .before .before .before .before .before .before .before .before .before .entry-at2 .ensures) _ _
+      (c .before .before .before .before .before .before .before .before .before .before .before .before .before .before .before .wide2 .ensures .0) (c .before .before .before .before .before .before .before .before .before .before .before .before .before .before .length-at .ensures) _ _
+      (c .before .before .before .before .before .before .before .before .before .before .before .try-from .ensures _) _ _ _ (c .before .before .before .before .walk-from .ensures),
+)
 
 walk-from-try-from-requires-2 : (t : ℕ) → walk-from-lts.Need-try-from-requires-2 (
   enter-post-reads.Asked,
@@ -276,7 +298,13 @@ walk-from-loop-less : (t : ℕ) → walk-from-lts.Need-loop-less (
   walk-from-below t,
   walk-from.Post,
 ) (walk-from-at t) walk-from.Post walk-from-Inv-loop walk-from-μ-loop
-walk-from-loop-less t c = ahead-less (c .before .before .before .before .before .before .before .before .before .before .before .before .before .before .before .before .before .before .before .before .before .before .before .before .before .before .before .before .before .before .before .before .before .before .before .before .before .before .before .before .before .before .before .before .before .before .before .pre .1) (c .before .before .before .before .before .before .before .before .before .before .before .before .before .before .before .before .before .before .before .before .before .before .before .before .before .before .before .loop .inv) (c .before .before .before .before .before .before .before .before .before .before .before .before .before .before .before .before .before .before .before .before .before .before .before .before .before .before .loop-test .taken) _ _ (c .before .before .before .before .before .before .before .before .before .before .before .before .before .before .before .before .before .before .before .before .before .before .before .before .before .wide .ensures .0) (c .before .before .before .before .before .before .before .before .before .before .before .before .before .before .before .before .before .before .before .before .before .before .before .before .entry-at2 .ensures) _ (c .entry-at3 .ensures)
+walk-from-loop-less t c = ahead-less
+    (c .before .before .before .before .before .before .before .before .before .before .before .before .before .before .before .before .before .before .before .before .before .before .before .before .before .before .before .before .before .before .before .before .before .before .before .before
+    .before .before .before .before .before .before .before .before .before .before .before .pre .1)
+    (c .before .before .before .before .before .before .before .before .before .before .before .before .before .before .before .before .before .before .before .before .before .before .before .before .before .before .before .loop .inv)
+    (c .before .before .before .before .before .before .before .before .before .before .before .before .before .before .before .before .before .before .before .before .before .before .before .before .before .before .loop-test .taken) _ _
+    (c .before .before .before .before .before .before .before .before .before .before .before .before .before .before .before .before .before .before .before .before .before .before .before .before .before .wide .ensures .0)
+    (c .before .before .before .before .before .before .before .before .before .before .before .before .before .before .before .before .before .before .before .before .before .before .before .before .entry-at2 .ensures) _ (c .entry-at3 .ensures)
 
 walk-from-loop-again : (t : ℕ) → walk-from-lts.Need-loop-again (
   enter-post-reads.Asked,
@@ -292,7 +320,21 @@ walk-from-loop-again : (t : ℕ) → walk-from-lts.Need-loop-again (
   walk-from-below t,
   walk-from.Post,
 ) (walk-from-at t) walk-from.Post walk-from-Inv-loop walk-from-μ-loop
-walk-from-loop-again t c = along-turn (c .before .before .before .before .before .before .before .before .before .before .before .before .before .before .before .before .before .before .before .before .before .before .before .before .before .before .before .before .before .before .before .before .before .before .before .before .before .before .before .before .before .before .before .before .before .before .before .pre .1) (c .before .before .before .before .before .before .before .before .before .before .before .before .before .before .before .before .before .before .before .before .before .before .before .before .before .before .before .loop .inv) (c .before .before .before .before .before .before .before .before .before .before .before .before .before .before .before .before .before .before .before .before .before .before .before .before .before .before .loop-test .taken) _ _ (c .before .before .before .before .before .before .before .before .before .before .before .before .before .before .before .before .before .before .before .before .before .before .before .before .before .wide .ensures .0) (c .before .before .before .before .before .before .before .before .before .before .before .before .before .before .before .before .before .before .before .before .before .before .before .before .entry-at2 .ensures) _ _ (c .before .before .before .before .before .before .before .before .before .before .before .before .before .before .before .before .before .before .before .before .before .before .before .wide2 .ensures .0) (c .before .before .before .before .before .before .before .before .before .before .before .before .before .before .before .before .before .before .before .before .before .before .length-at .ensures) _ _ (c .before .before .before .before .before .before .before .before .before .before .before .before .before .before .before .before .before .before .before .try-from .ensures _) _ _ _ (c .before .before .before .before .before .before .before .before .before .before .before .before .walk-from .ensures) _ _ (c .before .before .before .before .before .try-from2 .ensures _) (c .before .before .before .before .before .try-from2 .kept .1 .1 .1 .1 .0 ∙ c .before .before .before .before .before .before .before .before .before .before .before .before .walk-from .kept .1 .1 .1 .1 .1 .1 .1 .1 .1 .1 .1 .1 .1 .0 ∙ c .before .before .before .before .before .before .before .before .before .before .before .before .before .before .before .before .before .before .before .try-from .kept .1 .1 .1 .1 .0) (c .before .before .before .before .before .try-from2 .kept .1 .1 .1 .1 .1 .0 ∙ c .before .before .before .before .before .before .before .before .before .before .before .before .walk-from .kept .1 .1 .1 .1 .1 .1 .1 .1 .1 .1 .1 .1 .1 .1 .0 ∙ c .before .before .before .before .before .before .before .before .before .before .before .before .before .before .before .before .before .before .before .try-from .kept .1 .1 .1 .1 .1 .0) _ (c .entry-at3 .ensures)
+walk-from-loop-again t c = along-turn
+    (c .before .before .before .before .before .before .before .before .before .before .before .before .before .before .before .before .before .before .before .before .before .before .before .before .before .before .before .before .before .before .before .before .before .before .before .before
+    .before .before .before .before .before .before .before .before .before .before .before .pre .1)
+    (c .before .before .before .before .before .before .before .before .before .before .before .before .before .before .before .before .before .before .before .before .before .before .before .before .before .before .before .loop .inv)
+    (c .before .before .before .before .before .before .before .before .before .before .before .before .before .before .before .before .before .before .before .before .before .before .before .before .before .before .loop-test .taken) _ _
+    (c .before .before .before .before .before .before .before .before .before .before .before .before .before .before .before .before .before .before .before .before .before .before .before .before .before .wide .ensures .0)
+    (c .before .before .before .before .before .before .before .before .before .before .before .before .before .before .before .before .before .before .before .before .before .before .before .before .entry-at2 .ensures) _ _
+    (c .before .before .before .before .before .before .before .before .before .before .before .before .before .before .before .before .before .before .before .before .before .before .before .wide2 .ensures .0)
+    (c .before .before .before .before .before .before .before .before .before .before .before .before .before .before .before .before .before .before .before .before .before .before .length-at .ensures) _ _
+    (c .before .before .before .before .before .before .before .before .before .before .before .before .before .before .before .before .before .before .before .try-from .ensures _) _ _ _
+    (c .before .before .before .before .before .before .before .before .before .before .before .before .walk-from .ensures) _ _ (c .before .before .before .before .before .try-from2 .ensures _)
+    (c .before .before .before .before .before .try-from2 .kept .1 .1 .1 .1 .0 ∙ c .before .before .before .before .before .before .before .before .before .before .before .before .walk-from .kept .1 .1 .1 .1 .1 .1 .1 .1 .1 .1 .1 .1 .1 .0
+    ∙ c .before .before .before .before .before .before .before .before .before .before .before .before .before .before .before .before .before .before .before .try-from .kept .1 .1 .1 .1 .0)
+    (c .before .before .before .before .before .try-from2 .kept .1 .1 .1 .1 .1 .0 ∙ c .before .before .before .before .before .before .before .before .before .before .before .before .walk-from .kept .1 .1 .1 .1 .1 .1 .1 .1 .1 .1 .1 .1 .1 .1 .0
+    ∙ c .before .before .before .before .before .before .before .before .before .before .before .before .before .before .before .before .before .before .before .try-from .kept .1 .1 .1 .1 .1 .0) _ (c .entry-at3 .ensures)
 
 walk-from-same-length : (t : ℕ) → walk-from-lts.Need-same-length (
   enter-post-reads.Asked,
@@ -340,7 +382,8 @@ walk-from-returns-2 : (t : ℕ) → walk-from-lts.Need-returns-2 (
   walk-from-below t,
   walk-from.Post,
 ) (walk-from-at t) walk-from.Post walk-from-Inv-loop walk-from-μ-loop
-walk-from-returns-2 t c = let w = c .before .before .before .before .before .before .before .before .before .before .before .before .before .before .before .before .before .before .before .before .before .pre .1 in along-end w (c .before .before .before .before .before .before .before .before .before .before .if1 .left) (c .before .before .before .before .before .before .before .enter-post .ensures _ (walking-enters w)) (c .before .loop .inv) (c .loop-test .left)
+walk-from-returns-2 t c = let w = c .before .before .before .before .before .before .before .before .before .before .before .before .before .before .before .before .before .before .before .before .before .pre .1 in
+    along-end w (c .before .before .before .before .before .before .before .before .before .before .if1 .left) (c .before .before .before .before .before .before .before .enter-post .ensures _ (walking-enters w)) (c .before .loop .inv) (c .loop-test .left)
 
 pub +walk-from-spec : {M : Type 1} → statement M
 +walk-from-spec = close μ-walk-from λ t. walk-from-lts.spec (

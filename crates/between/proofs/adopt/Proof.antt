@@ -38,7 +38,11 @@ same-length-2 : tie.Need-same-length-2
 same-length-2 c = search needs
 
 returns : tie.Need-returns
-returns c = adopt-hit _ _ _ _ _ _ _ _ _ _ _ _ _ _ _ (c .before .before .before .before .before .before .before .before .before .before .before .before .before .before .before .before .wide .ensures .0) (c .before .before .before .before .before .before .before .before .before .before .before .before .before .before .before .entry-at .ensures) (c .before .before .before .before .before .before .before .before .before .before .before .before .before .before .wide2 .ensures .0) (c .before .before .before .before .before .before .before .before .before .before .before .before .before .if1 .taken) (c .before .before .before .before .before .before .before .before .before .before .before .wide3 .ensures .0) (c .before .before .before .before .before .before .before .before .before .before .entry-at2 .ensures) (c .before .before .before .before .before .before .before .before .wide4 .ensures .0) (c .before .before .before .before .before .before .before .put-entry .ensures) (c .before .before .before .wide5 .ensures .0) (c .before .before .put-entry2 .ensures)
+returns c = adopt-hit _ _ _ _ _ _ _ _ _ _ _ _ _ _ _ (c .before .before .before .before .before .before .before .before .before .before .before .before .before .before .before .before .wide .ensures .0)
+    (c .before .before .before .before .before .before .before .before .before .before .before .before .before .before .before .entry-at .ensures) (c .before .before .before .before .before .before .before .before .before .before .before .before .before .before .wide2 .ensures .0)
+    (c .before .before .before .before .before .before .before .before .before .before .before .before .before .if1 .taken) (c .before .before .before .before .before .before .before .before .before .before .before .wide3 .ensures .0)
+    (c .before .before .before .before .before .before .before .before .before .before .entry-at2 .ensures) (c .before .before .before .before .before .before .before .before .wide4 .ensures .0) (c .before .before .before .before .before .before .before .put-entry .ensures)
+    (c .before .before .before .wide5 .ensures .0) (c .before .before .put-entry2 .ensures)
 
 returns-2 : tie.Need-returns-2
 returns-2 c = adopt-miss _ _ _ _ _ _ _ _ _ (c .before .before .before .wide .ensures .0) (c .before .before .entry-at .ensures) (c .before .wide2 .ensures .0) (c .if1 .left)

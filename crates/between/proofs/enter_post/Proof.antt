@@ -12,7 +12,12 @@ note-at-requires-2 : tie.Need-note-at-requires-2
 note-at-requires-2 c κs = search needs
 
 is-over-requires : tie.Need-is-over-requires
-is-over-requires c κs = let s = c .before .before .before .before .before .before .before .before .before .before .pre in (omega arith, omega arith, omega (arith, s .d-low (c .before .before .before .before .before .before .before .before .before .before .args .v)), omega (arith, s .D-low (c .before .before .before .before .before .before .before .before .before .before .args .v)))
+is-over-requires c κs = let s = c .before .before .before .before .before .before .before .before .before .before .pre in (
+  omega arith,
+  omega arith,
+  omega (arith, s .d-low (c .before .before .before .before .before .before .before .before .before .before .args .v)),
+  omega (arith, s .D-low (c .before .before .before .before .before .before .before .before .before .before .args .v)),
+)
 
 lay-path-requires : tie.Need-lay-path-requires
 lay-path-requires c κs = search needs
@@ -24,7 +29,8 @@ same-length-2 : tie.Need-same-length-2
 same-length-2 c = search needs
 
 returns : tie.Need-returns
-returns c = λ g en. enter-over en _ _ _ _ _ (c .before .before .before .before .before .before .before .before .before .before .note-at .ensures) (c .before .before .before .before .before .before .before .before .before .note-at2 .ensures) (c .before .before .before .before .before .before .before .before .is-over .ensures) (c .before .before .before .before .before .before .before .if1 .taken) _ _ (c .before .before .before .before .lay-path .ensures g (en .direct))
+returns c = λ g en. enter-over en _ _ _ _ _ (c .before .before .before .before .before .before .before .before .before .before .note-at .ensures) (c .before .before .before .before .before .before .before .before .before .note-at2 .ensures)
+    (c .before .before .before .before .before .before .before .before .is-over .ensures) (c .before .before .before .before .before .before .before .if1 .taken) _ _ (c .before .before .before .before .lay-path .ensures g (en .direct))
 
 same-length-3 : tie.Need-same-length-3
 same-length-3 c = search needs

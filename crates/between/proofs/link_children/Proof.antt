@@ -39,7 +39,14 @@ loop-less : tie.Need-loop-less Inv-loop μ-loop
 loop-less c = omega arith
 
 loop-again : tie.Need-loop-again Inv-loop μ-loop
-loop-again c = let v = c .before .before .before .before .before .before .before .before .before .before .loop .inv in (omega arith, omega arith, omega arith, indexed-turn (v .3) (inside-size (c .before .before .before .before .before .before .before .before .before .before .before .before .before .clear .kept .0) (c .before .before .before .before .before .before .before .before .before .before .before .before .before .before .before .before .before .before .before .before .pre .0)) (omega arith) (omega arith) (omega arith) (omega arith) _ _ (c .before .before .before .before .before .before .before .before .end-at .ensures) (c .before .before .before .before .before .before .before .end-at2 .ensures) _ _ (c .before .before .before .before .adopt-both .ensures))
+loop-again c = let v = c .before .before .before .before .before .before .before .before .before .before .loop .inv in (
+  omega arith,
+  omega arith,
+  omega arith,
+  indexed-turn (v .3) (inside-size (c .before .before .before .before .before .before .before .before .before .before .before .before .before .clear .kept .0)
+      (c .before .before .before .before .before .before .before .before .before .before .before .before .before .before .before .before .before .before .before .before .pre .0)) (omega arith) (omega arith) (omega arith) (omega arith) _ _
+      (c .before .before .before .before .before .before .before .before .end-at .ensures) (c .before .before .before .before .before .before .before .end-at2 .ensures) _ _ (c .before .before .before .before .adopt-both .ensures),
+)
 
 same-length : tie.Need-same-length Inv-loop μ-loop
 same-length c = search needs

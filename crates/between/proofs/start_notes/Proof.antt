@@ -38,7 +38,8 @@ loop-less : tie.Need-loop-less Inv-loop μ-loop
 loop-less c = omega arith
 
 loop-again : tie.Need-loop-again Inv-loop μ-loop
-loop-again c = over-more (c .before .before .loop .inv) (omega arith) _ (c .start-note .ensures ∙ sym (tab-at (λ (v : ℕ). cond (eqb v (c .before .before .before .before .args .source)) 0 noneYet) (length (c .before .before .before .before .args .d .now)) (c .before .before .loop .i) _ (omega arith)))
+loop-again c = over-more (c .before .before .loop .inv) (omega arith) _
+    (c .start-note .ensures ∙ sym (tab-at (λ (v : ℕ). cond (eqb v (c .before .before .before .before .args .source)) 0 noneYet) (length (c .before .before .before .before .args .d .now)) (c .before .before .loop .i) _ (omega arith)))
 
 same-length : tie.Need-same-length Inv-loop μ-loop
 same-length c = c .before .loop .inv .same

@@ -32,7 +32,8 @@ same-length-2 : tie.Need-same-length-2
 same-length-2 c = search needs
 
 returns : tie.Need-returns
-returns c = λ g el. try-hit g _ _ _ _ _ _ _ _ _ (c .before .before .before .before .before .before .before .before .before .before .before .before .note-at .ensures) (c .before .before .before .before .before .before .before .before .before .before .note-at2 .ensures) (c .before .before .before .before .before .before .before .before .before .is-less .ensures) el _ _ (c .before .before .before .before .before .before .before .before .if1 .taken) (c .before .before .before .before .before .before .put-note .ensures) (c .before .before .put-entry .ensures)
+returns c = λ g el. try-hit g _ _ _ _ _ _ _ _ _ (c .before .before .before .before .before .before .before .before .before .before .before .before .note-at .ensures) (c .before .before .before .before .before .before .before .before .before .before .note-at2 .ensures)
+    (c .before .before .before .before .before .before .before .before .before .is-less .ensures) el _ _ (c .before .before .before .before .before .before .before .before .if1 .taken) (c .before .before .before .before .before .before .put-note .ensures) (c .before .before .put-entry .ensures)
 
 same-length-3 : tie.Need-same-length-3
 same-length-3 c = search needs

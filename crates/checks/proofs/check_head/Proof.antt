@@ -7,62 +7,51 @@ use Rattle.net.proofs.Checks.{refused-by, sound-by}
 use Rattle.checks.proofs.Tests.{not-below, is-below, not-at-most, is-at-most, outside, posts-in, head-in, ratio-out}
 use Rattle.checks.proofs.check_head.Statement.{statement}
 use Rattle.checks.proofs.check_head.Tie as tie
-use Rattle.checks.proofs.check_head.Reads as reads
-use Rattle.checks.proofs.check_head.Lts as lts
-use Rattle.checks.proofs.refuse.Reads as refuse-reads
-use Rattle.checks.proofs.within.Reads as within-reads
 
--- src/lib.rt:39:9
 within-requires : tie.Need-within-requires
 within-requires c κs = search needs
 
--- src/lib.rt:40:9
 refuse-requires : tie.Need-refuse-requires
 refuse-requires c κs = search needs
 
--- src/lib.rt:40:9
 returns : tie.Need-returns
 returns c = c .refuse .ensures ∙ refused-by (head-first _ _ (one (outside _ _ (c .before .before .within .ensures) (c .before .if1 .taken))))
 
--- src/lib.rt:43:9
 refuse-requires-2 : tie.Need-refuse-requires-2
 refuse-requires-2 c κs = search needs
 
--- src/lib.rt:43:9
 returns-2 : tie.Need-returns-2
 returns-2 c = c .refuse2 .ensures ∙ refused-by (head-first _ _ (two (posts-in _ (c .before .before .before .before .within .ensures) (c .before .before .before .if1 .left)) (not-below _ _ (c .before .if2 .taken))))
 
--- src/lib.rt:46:9
 refuse-requires-3 : tie.Need-refuse-requires-3
 refuse-requires-3 c κs = search needs
 
--- src/lib.rt:46:9
 returns-3 : tie.Need-returns-3
-returns-3 c = c .refuse3 .ensures ∙ refused-by (head-first _ _ (three (posts-in _ (c .before .before .before .before .before .before .within .ensures) (c .before .before .before .before .before .if1 .left)) (is-below _ _ (c .before .before .before .if2 .left)) (inr (inl (not-at-most _ _ (c .before .if3 .taken))))))
+returns-3 c = c .refuse3 .ensures
+    ∙ refused-by (head-first _ _ (three (posts-in _ (c .before .before .before .before .before .before .within .ensures) (c .before .before .before .before .before .if1 .left)) (is-below _ _ (c .before .before .before .if2 .left)) (inr (inl (not-at-most _ _ (c .before .if3 .taken))))))
 
--- src/lib.rt:48:9
 within-requires-2 : tie.Need-within-requires-2
 within-requires-2 c κs = search needs
 
--- src/lib.rt:49:9
 refuse-requires-4 : tie.Need-refuse-requires-4
 refuse-requires-4 c κs = search needs
 
--- src/lib.rt:49:9
 returns-4 : tie.Need-returns-4
-returns-4 c = c .refuse4 .ensures ∙ refused-by (head-first _ _ (three (posts-in _ (c .before .before .before .before .before .before .before .before .within .ensures) (c .before .before .before .before .before .before .before .if1 .left)) (is-below _ _ (c .before .before .before .before .before .if2 .left)) (ratio-out (c .before .before .before .before .before .before .before .before .before .args .head) (c .before .before .within2 .ensures) (c .before .if4 .taken))))
+returns-4 c = c .refuse4 .ensures
+    ∙ refused-by (head-first _ _ (three (posts-in _ (c .before .before .before .before .before .before .before .before .within .ensures) (c .before .before .before .before .before .before .before .if1 .left)) (is-below _ _ (c .before .before .before .before .before .if2 .left))
+    (ratio-out (c .before .before .before .before .before .before .before .before .before .args .head) (c .before .before .within2 .ensures) (c .before .if4 .taken))))
 
--- src/lib.rt:52:9
 refuse-requires-5 : tie.Need-refuse-requires-5
 refuse-requires-5 c κs = search needs
 
--- src/lib.rt:52:9
 returns-5 : tie.Need-returns-5
-returns-5 c = c .refuse5 .ensures ∙ refused-by (head-first _ _ (four (head-in _ (c .before .before .before .before .before .before .before .before .before .within .ensures) (c .before .before .before .before .before .before .before .before .if1 .left) (c .before .before .before .before .before .before .if2 .left) (c .before .before .before .before .if3 .left) (c .before .before .before .within2 .ensures) (c .before .before .if4 .left)) (not-at-most _ _ (c .before .if5 .taken))))
+returns-5 c = c .refuse5 .ensures
+    ∙ refused-by (head-first _ _ (four (head-in _ (c .before .before .before .before .before .before .before .before .before .within .ensures) (c .before .before .before .before .before .before .before .before .if1 .left) (c .before .before .before .before .before .before .if2 .left)
+    (c .before .before .before .before .if3 .left) (c .before .before .before .within2 .ensures) (c .before .before .if4 .left)) (not-at-most _ _ (c .before .if5 .taken))))
 
--- src/lib.rt:36:1
 returns-6 : tie.Need-returns-6
-returns-6 c = sound-by (head-first _ _ (nothing (head-in _ (c .before .before .before .before .before .before .before .before .within .ensures) (c .before .before .before .before .before .before .before .if1 .left) (c .before .before .before .before .before .if2 .left) (c .before .before .before .if3 .left) (c .before .before .within2 .ensures) (c .before .if4 .left)) (is-at-most _ _ (c .if5 .left))))
+returns-6 c = sound-by (head-first _ _ (nothing (head-in _ (c .before .before .before .before .before .before .before .before .within .ensures) (c .before .before .before .before .before .before .before .if1 .left) (c .before .before .before .before .before .if2 .left)
+    (c .before .before .before .if3 .left) (c .before .before .within2 .ensures) (c .before .if4 .left)) (is-at-most _ _ (c .if5 .left))))
 
 pub check-head-spec : {M : Type 1} → statement M
 check-head-spec =

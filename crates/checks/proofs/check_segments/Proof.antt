@@ -6,10 +6,6 @@ use Rattle.checks.proofs.Ways.{SoundBelow, sound-none, sound-more, soun
 use native.Mathlib.Omega.{arith}
 use Rattle.checks.proofs.check_segments.Statement.{statement}
 use Rattle.checks.proofs.check_segments.Tie as tie
-use Rattle.checks.proofs.check_segments.Reads as reads
-use Rattle.checks.proofs.check_segments.Lts as lts
-use Rattle.checks.proofs.check_segment.Reads as check-segment-reads
-use Rattle.checks.proofs.segment_at.Reads as segment-at-reads
 
 abbrev Inv-loop : tie.InvT-loop
 Inv-loop posts a b length count i₀ i = SoundBelow posts (segmentsOf a b length) i
@@ -17,46 +13,36 @@ Inv-loop posts a b length count i₀ i = SoundBelow posts (segmentsOf a b length
 abbrev μ-loop : tie.MeasureT-loop
 μ-loop posts a b length count i₀ i = count - i
 
--- src/lib.rt:128:5
 loop-holds : tie.Need-loop-holds Inv-loop μ-loop
 loop-holds c = sound-none
 
--- src/lib.rt:129:13
 segment-at-requires : tie.Need-segment-at-requires Inv-loop μ-loop
 segment-at-requires c κs = let z = c .before .before .before .before .before .args in in-each (z .a .now) (z .b .now) (z .length .now) (c .before .loop .i) (omega arith)
 
--- src/lib.rt:130:50
 cast-check-segment : tie.Need-cast-check-segment Inv-loop μ-loop
 cast-check-segment c = omega arith
 
--- src/lib.rt:130:13
 check-segment-requires : tie.Need-check-segment-requires Inv-loop μ-loop
 check-segment-requires c κs = search needs
 
--- src/lib.rt:131:33
 enum-known-says : tie.Need-enum-known-says Inv-loop μ-loop
 enum-known-says c = search needs
 
--- src/lib.rt:132:13
 returns : tie.Need-returns Inv-loop μ-loop
 returns c = refused-at (c .before .before .before .before .before .before .loop .inv) (omega arith) (c .before .before .before .before .segment-at .ensures) (c .before .before .before .check-segment .ensures) (c .before .says .given .1)
 
 enum-told : tie.Need-enum-told Inv-loop μ-loop
 enum-told c = search needs
 
--- src/lib.rt:134:9
 add-i : tie.Need-add-i Inv-loop μ-loop
 add-i c = omega arith
 
--- src/lib.rt:128:5
 loop-less : tie.Need-loop-less Inv-loop μ-loop
 loop-less c = omega arith
 
--- src/lib.rt:128:5
 loop-again : tie.Need-loop-again Inv-loop μ-loop
 loop-again c = sound-more (c .before .before .before .before .before .loop .inv) (omega arith) (c .before .before .before .segment-at .ensures) (c .before .before .check-segment .ensures) (c .enum-told .given .1)
 
--- src/lib.rt:123:1
 returns-2 : tie.Need-returns-2 Inv-loop μ-loop
 returns-2 c = sound-all (c .before .loop .inv) (omega arith)
 

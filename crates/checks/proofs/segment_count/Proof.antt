@@ -3,19 +3,13 @@ use borrow.Author.Needs.{needs}
 use Rattle.net.proofs.Segments.{segments-count}
 use Rattle.checks.proofs.segment_count.Statement.{statement}
 use Rattle.checks.proofs.segment_count.Tie as tie
-use Rattle.checks.proofs.segment_count.Reads as reads
-use Rattle.checks.proofs.segment_count.Lts as lts
-use Rattle.checks.proofs.lesser.Reads as lesser-reads
 
--- src/lib.rt:107:12
 lesser-requires : tie.Need-lesser-requires
 lesser-requires c κs = search needs
 
--- src/lib.rt:107:5
 lesser-requires-2 : tie.Need-lesser-requires-2
 lesser-requires-2 c κs = search needs
 
--- src/lib.rt:104:1
 returns : tie.Need-returns
 returns c = omega (arith, segments-count (c .before .before .before .before .before .args .a .now) (c .before .before .before .before .before .args .b .now) (c .before .before .before .before .before .args .length .now))
 

@@ -30,7 +30,11 @@ mul-total : tie.Need-mul-total Inv-loop μ-loop
 mul-total c = let p = c .before .before .before .before .before .before .before .before .before .pre in omega (arith, segment-in (p .0 .0) (p .1) (c .before .before .before .loop .inv .here) (c .before .if1 .taken) (c .entry-at .ensures), p .0 .0 .few)
 
 shared-slice-read-total : tie.Need-shared-slice-read-total Inv-loop μ-loop
-shared-slice-read-total c = let p = c .before .before .before .before .before .before .before .before .before .before .pre in omega (arith, segment-in (p .0 .0) (p .1) (c .before .before .before .before .loop .inv .here) (c .before .before .if1 .taken) (c .before .entry-at .ensures), p .0 .0 .lengths-many)
+shared-slice-read-total c = let p = c .before .before .before .before .before .before .before .before .before .before .pre in omega (
+  arith,
+  segment-in (p .0 .0) (p .1) (c .before .before .before .before .loop .inv .here) (c .before .before .if1 .taken) (c .before .entry-at .ensures),
+  p .0 .0 .lengths-many,
+)
 
 add-total : tie.Need-add-total Inv-loop μ-loop
 add-total c =
@@ -43,7 +47,12 @@ end-at-requires : tie.Need-end-at-requires Inv-loop μ-loop
 end-at-requires c κs = let p = c .before .before .before .before .before .before .before .before .before .before .pre in segment-in (p .0 .0) (p .1) (c .before .before .before .before .loop .inv .here) (c .before .before .if1 .taken) (c .before .entry-at .ensures)
 
 end-at-requires-2 : tie.Need-end-at-requires-2 Inv-loop μ-loop
-end-at-requires-2 c κs = let p = c .before .before .before .before .before .before .before .before .before .before .before .pre in omega (arith, segment-in (p .0 .0) (p .1) (c .before .before .before .before .before .loop .inv .here) (c .before .before .before .if1 .taken) (c .before .before .entry-at .ensures), p .0 .0 .b-many)
+end-at-requires-2 c κs = let p = c .before .before .before .before .before .before .before .before .before .before .before .pre in omega (
+  arith,
+  segment-in (p .0 .0) (p .1) (c .before .before .before .before .before .loop .inv .here) (c .before .before .before .if1 .taken)
+      (c .before .before .entry-at .ensures),
+  p .0 .0 .b-many,
+)
 
 across-requires : tie.Need-across-requires Inv-loop μ-loop
 across-requires c κs = search needs

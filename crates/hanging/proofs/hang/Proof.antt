@@ -42,7 +42,8 @@ hook-both-requires c κs =
     let l = c .before .before .before .before .before .before .loop-test .taken in
     let x = p .0 .ends .a-in _ l (c .before .before .before .before .if1 .taken) in
     let y = p .0 .ends .b-in _ l (c .before .before .before .before .if1 .taken) in
-    hook-in (p .1 .0) (omega (arith, p .1 .1, c .before .before .before .before .before .before .before .loop .inv .same, c .before .before .before .before .before .before .before .before .before .before .fill .kept .1 .1 .0)) x y (c .before .before .before .at16 .ensures .0) (c .before .before .at162 .ensures .0)
+    hook-in (p .1 .0) (omega (arith, p .1 .1, c .before .before .before .before .before .before .before .loop .inv .same, c .before .before .before .before .before .before .before .before .before .before .fill .kept .1 .1 .0)) x y (c .before .before .before .at16 .ensures .0)
+    (c .before .before .at162 .ensures .0)
 
 add-i : tie.Need-add-i Inv-loop μ-loop
 add-i c = omega (arith, c .before .before .loop-test .taken, c .before .before .before .before .before .before .before .before .before .before .before .before .before .before .pre .0 .ends .few)

@@ -36,7 +36,8 @@ mul-left : tie.Need-mul-left Inv-loop μ-loop
 mul-left c = let p = c .before .before .before .before .before .before .before .before .before .pre .0 .0 in let w = c .before .before .before .loop .inv in omega (arith, segment-in p (w .known) (w .here) (c .before .if1 .taken) (c .entry-at .ensures), p .few)
 
 shared-slice-read-left : tie.Need-shared-slice-read-left Inv-loop μ-loop
-shared-slice-read-left c = let p = c .before .before .before .before .before .before .before .before .before .before .pre .0 .0 in let w = c .before .before .before .before .loop .inv in omega (arith, segment-in p (w .known) (w .here) (c .before .before .if1 .taken) (c .before .entry-at .ensures), p .lengths-many)
+shared-slice-read-left c = let p = c .before .before .before .before .before .before .before .before .before .before .pre .0 .0 in let w = c .before .before .before .before .loop .inv in
+    omega (arith, segment-in p (w .known) (w .here) (c .before .before .if1 .taken) (c .before .entry-at .ensures), p .lengths-many)
 
 sub-left : tie.Need-sub-left Inv-loop μ-loop
 sub-left c =
@@ -48,7 +49,8 @@ end-at-requires : tie.Need-end-at-requires Inv-loop μ-loop
 end-at-requires c κs = let w = c .before .before .before .before .loop .inv in segment-in (c .before .before .before .before .before .before .before .before .before .before .pre .0 .0) (w .known) (w .here) (c .before .before .if1 .taken) (c .before .entry-at .ensures)
 
 end-at-requires-2 : tie.Need-end-at-requires-2 Inv-loop μ-loop
-end-at-requires-2 c κs = let p = c .before .before .before .before .before .before .before .before .before .before .before .pre .0 .0 in let w = c .before .before .before .before .before .loop .inv in omega (arith, segment-in p (w .known) (w .here) (c .before .before .before .if1 .taken) (c .before .before .entry-at .ensures), p .b-many)
+end-at-requires-2 c κs = let p = c .before .before .before .before .before .before .before .before .before .before .before .pre .0 .0 in let w = c .before .before .before .before .before .loop .inv in
+    omega (arith, segment-in p (w .known) (w .here) (c .before .before .before .if1 .taken) (c .before .before .entry-at .ensures), p .b-many)
 
 across-requires : tie.Need-across-requires Inv-loop μ-loop
 across-requires c κs = search needs
@@ -56,12 +58,14 @@ across-requires c κs = search needs
 loop-less : tie.Need-loop-less Inv-loop μ-loop
 loop-less c =
     let w = c .before .before .before .before .before .before .before .loop .inv in
-    (step-up (c .before .before .before .before .before .before .before .before .before .before .before .before .before .pre .0 .0) (w .known) (w .here) (c .before .before .before .before .before .if1 .taken) (c .before .before .before .before .entry-at .ensures) refl (c .before .before .end-at .ensures) (c .before .end-at2 .ensures) (c .across .ensures)) .nearer
+    (step-up (c .before .before .before .before .before .before .before .before .before .before .before .before .before .pre .0 .0) (w .known) (w .here) (c .before .before .before .before .before .if1 .taken) (c .before .before .before .before .entry-at .ensures) refl
+    (c .before .before .end-at .ensures) (c .before .end-at2 .ensures) (c .across .ensures)) .nearer
 
 loop-again : tie.Need-loop-again Inv-loop μ-loop
 loop-again c =
     let w = c .before .before .before .before .before .before .before .loop .inv in
-    noting-more _ _ _ (c .before .before .before .before .before .before .before .before .before .before .before .before .before .pre .0 .1) w (step-up (c .before .before .before .before .before .before .before .before .before .before .before .before .before .pre .0 .0) (w .known) (w .here) (c .before .before .before .before .before .if1 .taken) (c .before .before .before .before .entry-at .ensures) refl (c .before .before .end-at .ensures) (c .before .end-at2 .ensures) (c .across .ensures))
+    noting-more _ _ _ (c .before .before .before .before .before .before .before .before .before .before .before .before .before .pre .0 .1) w (step-up (c .before .before .before .before .before .before .before .before .before .before .before .before .before .pre .0 .0) (w .known) (w .here)
+    (c .before .before .before .before .before .if1 .taken) (c .before .before .before .before .entry-at .ensures) refl (c .before .before .end-at .ensures) (c .before .end-at2 .ensures) (c .across .ensures))
 
 same-length : tie.Need-same-length Inv-loop μ-loop
 same-length c = c .before .before .loop .inv .same

@@ -48,7 +48,8 @@ returns : tie.Need-returns Inv-loop μ-loop
 returns c =
     let e : c .before .loop .v ≡ c .before .before .before .before .before .before .before .before .before .before .before .args .posts = omega (arith, c .loop-test .left, c .before .loop .inv .up-to) in
     let w = c .before .loop .inv in
-    learning-all _ _ _ (c .before .before .before .before .before .before .before .before .before .before .before .args .paths .now) (c .before .before .before .before .before .before .before .before .before .before .before .pre .1) (c .before .before .before .before .begin-paths .kept .1 .1 .0) (c .before .before .before .before .begin-paths .ensures .1) (rw e at w)
+    learning-all _ _ _ (c .before .before .before .before .before .before .before .before .before .before .before .args .paths .now) (c .before .before .before .before .before .before .before .before .before .before .before .pre .1) (c .before .before .before .before .begin-paths .kept .1 .1 .0)
+    (c .before .before .before .before .begin-paths .ensures .1) (rw e at w)
 
 pub paths-of-spec : {M : Type 1} → statement M
 paths-of-spec =

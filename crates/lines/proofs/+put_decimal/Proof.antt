@@ -92,7 +92,13 @@ put-decimal-put-byte-requires-2 : (t : ℕ) → put-decimal-lts.Need-put-byte-re
   put-decimal-below t,
   put-decimal.Post,
 ) (put-decimal-at t) put-decimal.Post
-put-decimal-put-byte-requires-2 t c κs = omega (arith, c .before .before .before .before .put-decimal .ensures .behind, c .before .before .before .before .put-decimal .ensures .same, c .before .before .before .before .before .before .before .before .pre .1, high-length (c .before .before .before .before .before .before .before .before .args .n) (c .before .before .before .before .before .before .if1 .left))
+put-decimal-put-byte-requires-2 t c κs = omega (
+  arith,
+  c .before .before .before .before .put-decimal .ensures .behind,
+  c .before .before .before .before .put-decimal .ensures .same,
+  c .before .before .before .before .before .before .before .before .pre .1,
+  high-length (c .before .before .before .before .before .before .before .before .args .n) (c .before .before .before .before .before .before .if1 .left),
+)
 
 put-decimal-same-length-2 : (t : ℕ) → put-decimal-lts.Need-same-length-2 (
   digit-reads.Asked,

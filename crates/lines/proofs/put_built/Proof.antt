@@ -11,7 +11,8 @@ use Rattle.lines.proofs.put_built.Statement.{statement}
 use Rattle.lines.proofs.put_built.Tie as tie
 
 -- all five lines fit
-fits : (p : tie.After-shared-slice-known3) → fiveLines (p .before .before .before .args .head) (p .before .before .before .args .segments) (p .before .before .before .args .light) (p .before .before .before .args .short) (p .before .before .before .args .third) (p .before .before .before .args .laid) (p .before .before .before .args .lightest .now) (p .before .before .before .args .shortest .now) (p .before .before .before .args .between .now) ≤ mostText
+fits : (p : tie.After-shared-slice-known3) → fiveLines (p .before .before .before .args .head) (p .before .before .before .args .segments) (p .before .before .before .args .light) (p .before .before .before .args .short) (p .before .before .before .args .third)
+    (p .before .before .before .args .laid) (p .before .before .before .args .lightest .now) (p .before .before .before .args .shortest .now) (p .before .before .before .args .between .now) ≤ mostText
 fits p =
     five-short _ _ _ _ _ _ _ _ _ (omega arith) (λ v. omega (arith, p .before .before .shared-slice-known .given v))
     (λ v. omega (arith, p .before .shared-slice-known2 .given v)) (λ v. omega (arith, p .shared-slice-known3 .given v))
@@ -38,14 +39,21 @@ put-tree-line-requires-3 : tie.Need-put-tree-line-requires-3
 put-tree-line-requires-3 c κs = omega (arith, fits (c .before .before .before .before .before .before .before .before .before .before .before .before .before .before .before .before .before))
 
 put-laid-line-requires : tie.Need-put-laid-line-requires
-put-laid-line-requires c κs = let p = c .before .before .before .before .before .before .before .before .before .before .before .before .before .before .before .before .before .before .before .before .before .before .before .before in let n = c .before .before .before .before .before .before .before .before .before .before .before .before .before .before .before .before .before .before .put-net-line .ensures in let t = c .before .before .before .before .before .before .before .before .before .before .before .before .before .put-tree-line .ensures in omega (arith, fits (c .before .before .before .before .before .before .before .before .before .before .before .before .before .before .before .before .before .before .before .before .before))
+put-laid-line-requires c κs = let p = c .before .before .before .before .before .before .before .before .before .before .before .before .before .before .before .before .before .before .before .before .before .before .before .before in
+    let n = c .before .before .before .before .before .before .before .before .before .before .before .before .before .before .before .before .before .before .put-net-line .ensures in
+    let t = c .before .before .before .before .before .before .before .before .before .before .before .before .before .put-tree-line .ensures in
+    omega (arith, fits (c .before .before .before .before .before .before .before .before .before .before .before .before .before .before .before .before .before .before .before .before .before))
 
 same-length : tie.Need-same-length
-same-length c = c .before .before .put-laid-line .ensures .same ∙ c .before .before .before .before .before .before .put-tree-line3 .ensures .same ∙ c .before .before .before .before .before .before .before .before .before .before .before .put-tree-line2 .ensures .same ∙ c .before .before .before .before .before .before .before .before .before .before .before .before .before .before .before .before .put-tree-line .ensures .same ∙ c .before .before .before .before .before .before .before .before .before .before .before .before .before .before .before .before .before .before .before .before .before .put-net-line .ensures .same
+same-length c = c .before .before .put-laid-line .ensures .same ∙ c .before .before .before .before .before .before .put-tree-line3 .ensures .same ∙ c .before .before .before .before .before .before .before .before .before .before .before .put-tree-line2 .ensures .same
+    ∙ c .before .before .before .before .before .before .before .before .before .before .before .before .before .before .before .before .put-tree-line .ensures .same
+    ∙ c .before .before .before .before .before .before .before .before .before .before .before .before .before .before .before .before .before .before .before .before .before .put-net-line .ensures .same
 
 returns : tie.Need-returns
 unfolding programText
-returns c = put-then (put-then (put-then (put-then (c .before .before .before .before .before .before .before .before .before .before .before .before .before .before .before .before .before .before .before .before .before .put-net-line .ensures) (c .before .before .before .before .before .before .before .before .before .before .before .before .before .before .before .before .put-tree-line .ensures)) (c .before .before .before .before .before .before .before .before .before .before .before .put-tree-line2 .ensures)) (c .before .before .before .before .before .before .put-tree-line3 .ensures)) (c .before .before .put-laid-line .ensures)
+returns c = put-then (put-then (put-then (put-then (c .before .before .before .before .before .before .before .before .before .before .before .before .before .before .before .before .before .before .before .before .before .put-net-line .ensures)
+    (c .before .before .before .before .before .before .before .before .before .before .before .before .before .before .before .before .put-tree-line .ensures)) (c .before .before .before .before .before .before .before .before .before .before .before .put-tree-line2 .ensures))
+    (c .before .before .before .before .before .before .put-tree-line3 .ensures)) (c .before .before .put-laid-line .ensures)
 
 pub put-built-spec : {M : Type 1} → statement M
 put-built-spec =

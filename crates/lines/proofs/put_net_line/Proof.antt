@@ -24,17 +24,26 @@ put-spaced-requires-3 : tie.Need-put-spaced-requires-3
 put-spaced-requires-3 c κs = let p = c .before .before .before .before .before .before .before .before .before .before .before .before .before .before .before in omega (arith, net-length (p .args .head .posts) (p .args .segments) (p .args .head .source) (p .args .head .p) (p .args .head .q))
 
 put-ratio-requires : tie.Need-put-ratio-requires
-put-ratio-requires c κs = let p = c .before .before .before .before .before .before .before .before .before .before .before .before .before .before .before .before .before .before .before in omega (arith, net-length (p .args .head .posts) (p .args .segments) (p .args .head .source) (p .args .head .p) (p .args .head .q))
+put-ratio-requires c κs = let p = c .before .before .before .before .before .before .before .before .before .before .before .before .before .before .before .before .before .before .before in
+    omega (arith, net-length (p .args .head .posts) (p .args .segments) (p .args .head .source) (p .args .head .p) (p .args .head .q))
 
 put-byte-requires : tie.Need-put-byte-requires
-put-byte-requires c κs = let p = c .before .before .before .before .before .before .before .before .before .before .before .before .before .before .before .before .before .before .before .before .before .before .before in omega (arith, net-length (p .args .head .posts) (p .args .segments) (p .args .head .source) (p .args .head .p) (p .args .head .q))
+put-byte-requires c κs = let p = c .before .before .before .before .before .before .before .before .before .before .before .before .before .before .before .before .before .before .before .before .before .before .before in
+    omega (arith, net-length (p .args .head .posts) (p .args .segments) (p .args .head .source) (p .args .head .p) (p .args .head .q))
 
 same-length : tie.Need-same-length
-same-length c = c .before .before .put-byte .ensures .same ∙ c .before .before .before .before .before .before .put-ratio .ensures .same ∙ c .before .before .before .before .before .before .before .before .before .before .put-spaced3 .ensures .same ∙ c .before .before .before .before .before .before .before .before .before .before .before .before .before .before .put-spaced2 .ensures .same ∙ c .before .before .before .before .before .before .before .before .before .before .before .before .before .before .before .before .before .before .put-spaced .ensures .same ∙ c .before .before .before .before .before .before .before .before .before .before .before .before .before .before .before .before .before .before .before .before .before .before .put-bytes .ensures .same
+same-length c = c .before .before .put-byte .ensures .same ∙ c .before .before .before .before .before .before .put-ratio .ensures .same ∙ c .before .before .before .before .before .before .before .before .before .before .put-spaced3 .ensures .same
+    ∙ c .before .before .before .before .before .before .before .before .before .before .before .before .before .before .put-spaced2 .ensures .same
+    ∙ c .before .before .before .before .before .before .before .before .before .before .before .before .before .before .before .before .before .before .put-spaced .ensures .same
+    ∙ c .before .before .before .before .before .before .before .before .before .before .before .before .before .before .before .before .before .before .before .before .before .before .put-bytes .ensures .same
 
 returns : tie.Need-returns
 unfolding netLine
-returns c = put-then (put-then (put-then (put-then (put-then (c .before .before .before .before .before .before .before .before .before .before .before .before .before .before .before .before .before .before .before .before .before .before .put-bytes .ensures) (c .before .before .before .before .before .before .before .before .before .before .before .before .before .before .before .before .before .before .put-spaced .ensures)) (c .before .before .before .before .before .before .before .before .before .before .before .before .before .before .put-spaced2 .ensures)) (c .before .before .before .before .before .before .before .before .before .before .put-spaced3 .ensures)) (c .before .before .before .before .before .before .put-ratio .ensures)) (c .before .before .put-byte .ensures)
+returns c = put-then (put-then (put-then
+    (put-then (put-then (c .before .before .before .before .before .before .before .before .before .before .before .before .before .before .before .before .before .before .before .before .before .before .put-bytes .ensures)
+    (c .before .before .before .before .before .before .before .before .before .before .before .before .before .before .before .before .before .before .put-spaced .ensures))
+    (c .before .before .before .before .before .before .before .before .before .before .before .before .before .before .put-spaced2 .ensures)) (c .before .before .before .before .before .before .before .before .before .before .put-spaced3 .ensures))
+    (c .before .before .before .before .before .before .put-ratio .ensures)) (c .before .before .put-byte .ensures)
 
 pub put-net-line-spec : {M : Type 1} → statement M
 put-net-line-spec =

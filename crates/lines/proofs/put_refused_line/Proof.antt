@@ -24,11 +24,13 @@ put-byte-requires : tie.Need-put-byte-requires
 put-byte-requires c κs = let p = c .before .before .before .before .before .before .before .before .before .before .before .before .before .before .before in omega (arith, refused-length (p .args .number) (p .args .place))
 
 same-length : tie.Need-same-length
-same-length c = c .before .before .put-byte .ensures .same ∙ c .before .before .before .before .before .before .put-spaced2 .ensures .same ∙ c .before .before .before .before .before .before .before .before .before .before .put-spaced .ensures .same ∙ c .before .before .before .before .before .before .before .before .before .before .before .before .before .before .put-bytes .ensures .same
+same-length c = c .before .before .put-byte .ensures .same ∙ c .before .before .before .before .before .before .put-spaced2 .ensures .same ∙ c .before .before .before .before .before .before .before .before .before .before .put-spaced .ensures .same
+    ∙ c .before .before .before .before .before .before .before .before .before .before .before .before .before .before .put-bytes .ensures .same
 
 returns : tie.Need-returns
 unfolding refusedLine
-returns c = put-then (put-then (put-then (c .before .before .before .before .before .before .before .before .before .before .before .before .before .before .put-bytes .ensures) (c .before .before .before .before .before .before .before .before .before .before .put-spaced .ensures)) (c .before .before .before .before .before .before .put-spaced2 .ensures)) (c .before .before .put-byte .ensures)
+returns c = put-then (put-then (put-then (c .before .before .before .before .before .before .before .before .before .before .before .before .before .before .put-bytes .ensures) (c .before .before .before .before .before .before .before .before .before .before .put-spaced .ensures))
+    (c .before .before .before .before .before .before .put-spaced2 .ensures)) (c .before .before .put-byte .ensures)
 
 pub put-refused-line-spec : {M : Type 1} → statement M
 put-refused-line-spec =

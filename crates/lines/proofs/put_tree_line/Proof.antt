@@ -21,20 +21,27 @@ put-spaced-requires : tie.Need-put-spaced-requires
 put-spaced-requires c κs = let p = c .before .before .before .before .before .before .before .before .before .before in omega (arith, tree-length (p .args .name .now) (p .args .measured .length) (p .args .measured .radius) (p .args .head .posts) (p .args .head .source) (p .args .entries .now))
 
 put-spaced-requires-2 : tie.Need-put-spaced-requires-2
-put-spaced-requires-2 c κs = let p = c .before .before .before .before .before .before .before .before .before .before .before .before .before .before in omega (arith, tree-length (p .args .name .now) (p .args .measured .length) (p .args .measured .radius) (p .args .head .posts) (p .args .head .source) (p .args .entries .now))
+put-spaced-requires-2 c κs = let p = c .before .before .before .before .before .before .before .before .before .before .before .before .before .before in
+    omega (arith, tree-length (p .args .name .now) (p .args .measured .length) (p .args .measured .radius) (p .args .head .posts) (p .args .head .source) (p .args .entries .now))
 
 put-entries-requires : tie.Need-put-entries-requires
-put-entries-requires c κs = let p = c .before .before .before .before .before .before .before .before .before .before .before .before .before .before .before .before .before .before in (p .pre .0, omega (arith, tree-length (p .args .name .now) (p .args .measured .length) (p .args .measured .radius) (p .args .head .posts) (p .args .head .source) (p .args .entries .now)))
+put-entries-requires c κs = let p = c .before .before .before .before .before .before .before .before .before .before .before .before .before .before .before .before .before .before in
+    (p .pre .0, omega (arith, tree-length (p .args .name .now) (p .args .measured .length) (p .args .measured .radius) (p .args .head .posts) (p .args .head .source) (p .args .entries .now)))
 
 put-byte-requires : tie.Need-put-byte-requires
-put-byte-requires c κs = let p = c .before .before .before .before .before .before .before .before .before .before .before .before .before .before .before .before .before .before .before .before .before .before in omega (arith, tree-length (p .args .name .now) (p .args .measured .length) (p .args .measured .radius) (p .args .head .posts) (p .args .head .source) (p .args .entries .now))
+put-byte-requires c κs = let p = c .before .before .before .before .before .before .before .before .before .before .before .before .before .before .before .before .before .before .before .before .before .before in
+    omega (arith, tree-length (p .args .name .now) (p .args .measured .length) (p .args .measured .radius) (p .args .head .posts) (p .args .head .source) (p .args .entries .now))
 
 same-length : tie.Need-same-length
-same-length c = c .before .before .put-byte .ensures .same ∙ c .before .before .before .before .before .before .put-entries .ensures .same ∙ c .before .before .before .before .before .before .before .before .before .before .put-spaced2 .ensures .same ∙ c .before .before .before .before .before .before .before .before .before .before .before .before .before .before .put-spaced .ensures .same ∙ c .before .before .before .before .before .before .before .before .before .before .before .before .before .before .before .before .before .before .put-bytes .ensures .same
+same-length c = c .before .before .put-byte .ensures .same ∙ c .before .before .before .before .before .before .put-entries .ensures .same ∙ c .before .before .before .before .before .before .before .before .before .before .put-spaced2 .ensures .same
+    ∙ c .before .before .before .before .before .before .before .before .before .before .before .before .before .before .put-spaced .ensures .same
+    ∙ c .before .before .before .before .before .before .before .before .before .before .before .before .before .before .before .before .before .before .put-bytes .ensures .same
 
 returns : tie.Need-returns
 unfolding treeLine
-returns c = put-then (put-then (put-then (put-then (c .before .before .before .before .before .before .before .before .before .before .before .before .before .before .before .before .before .before .put-bytes .ensures) (c .before .before .before .before .before .before .before .before .before .before .before .before .before .before .put-spaced .ensures)) (c .before .before .before .before .before .before .before .before .before .before .put-spaced2 .ensures)) (c .before .before .before .before .before .before .put-entries .ensures)) (c .before .before .put-byte .ensures)
+returns c = put-then (put-then (put-then (put-then (c .before .before .before .before .before .before .before .before .before .before .before .before .before .before .before .before .before .before .put-bytes .ensures)
+    (c .before .before .before .before .before .before .before .before .before .before .before .before .before .before .put-spaced .ensures)) (c .before .before .before .before .before .before .before .before .before .before .put-spaced2 .ensures))
+    (c .before .before .before .before .before .before .put-entries .ensures)) (c .before .before .put-byte .ensures)
 
 pub put-tree-line-spec : {M : Type 1} → statement M
 put-tree-line-spec =

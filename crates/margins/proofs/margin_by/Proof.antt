@@ -31,7 +31,10 @@ minus-requires : tie.Need-minus-requires
 minus-requires c κs = omega arith
 
 returns : tie.Need-returns
-returns c = back (c .minus .result) (c .minus .ok) ∙ margin-at _ _ _ _ (c .minus .ensures) (c .before .before .before .before .product .ensures .0) (c .before .product2 .ensures .0) (c .before .before .before .before .before .before .wide .ensures .0) (c .before .before .before .before .before .wide2 .ensures .0) (c .before .before .before .wide3 .ensures .0) (c .before .before .wide4 .ensures .0)
+returns c =
+    back (c .minus .result) (c .minus .ok) ∙ margin-at _ _ _ _ (c .minus .ensures) (c .before .before .before .before .product .ensures .0) (c .before .product2 .ensures .0)
+    (c .before .before .before .before .before .before .wide .ensures .0) (c .before .before .before .before .before .wide2 .ensures .0)
+    (c .before .before .before .wide3 .ensures .0) (c .before .before .wide4 .ensures .0)
 
 pub margin-by-spec : {M : Type 1} → statement M
 margin-by-spec =

@@ -7,7 +7,7 @@ use Rattle.margins.proofs.margin_joined.Statement.{statement}
 use Rattle.margins.proofs.margin_joined.Tie as tie
 
 path-in-requires : tie.Need-path-in-requires
-path-in-requires c κs = let p = c .before .before .before .before .before .before .before .before .before .pre in ((p .0 .0, p .0 .1), (p .1 .0 .0, p .1 .0 .1, p .1 .0 .2))
+path-in-requires c κs = let p = c .before .before .before .before .before .before .before .pre in (p .0, (p .1 .0 .1, p .1 .1 .0))
 
 mul-margin-by : tie.Need-mul-margin-by
 mul-margin-by c = omega arith
@@ -16,16 +16,17 @@ shared-slice-read-margin-by : tie.Need-shared-slice-read-margin-by
 shared-slice-read-margin-by c = omega arith
 
 margin-by-requires : tie.Need-margin-by-requires
-margin-by-requires c κs = let p = c .before .before .before .before .before .before .before .before .before .before .before .before .before .before .before .pre in (p .0 .0 .sound .head-sound .small-p, p .0 .0 .sound .head-sound .small-q, least-small (p .0 .0) (p .0 .1) _ (p .1 .1))
-
-same-length : tie.Need-same-length
-same-length c = omega arith
-
-same-length-2 : tie.Need-same-length-2
-same-length-2 c = omega arith
+margin-by-requires c κs =
+    let p = c .before .before .before .before .before .before .before .before .before .pre in
+    let h = p .0 .sound .head-sound in
+    (h .small-p, h .small-q, least-small (p .0) (p .1 .0 .0) _ (p .1 .1 .1))
 
 returns : tie.Need-returns
-returns c = let p = c .before .before .before .before .before .before .before .before .before .before .before .before .before .before .before .before .pre in back (c .margin-by .result) (c .margin-by .ok) ∙ margin-of (p .0 .0) (p .0 .1) (c .before .before .before .before .before .before .before .before .before .before .before .before .before .before .before .before .args .post) (p .1 .1) (c .before .before .before .before .before .before .before .before .before .before .before .before .before .before .before .before .args .tree) (c .before .before .before .before .before .before .path-in .ensures) (c .margin-by .ensures)
+returns c =
+    let s = c .before .before .before .before .before .before .before .before .before .before in
+    let p = s .pre in
+    back (c .margin-by .result) (c .margin-by .ok)
+    ∙ margin-of (p .0) (p .1 .0 .0) (s .args .post) (p .1 .1 .1) (s .args .tree) (c .before .before .path-in .ensures) (c .margin-by .ensures)
 
 pub margin-joined-spec : {M : Type 1} → statement M
 margin-joined-spec =
@@ -35,6 +36,4 @@ margin-joined-spec =
     mul-margin-by
     shared-slice-read-margin-by
     margin-by-requires
-    same-length
-    same-length-2
     returns)

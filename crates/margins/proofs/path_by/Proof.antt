@@ -1,5 +1,6 @@
 -- `path_by` meets its contract: the tree has an entry for each post. Assumes nothing.
-use Rattle.trees.proofs.Ready.{ready-posts, ready-short}
+use Rattle.net.proofs.Ready.{ready-posts}
+use Rattle.trees.proofs.Ready.{ready-short}
 use Rattle.margins.proofs.Margins.{path-at}
 use native.Mathlib.Omega.{arith}
 use borrow.Author.Needs.{needs}

@@ -29,7 +29,8 @@ same-length c = search needs
 returns : tie.Need-returns
 returns c = (
   ap (λ x. c .before .before .before .before .before .args .at + x) (c .before .before .fill-number .ensures .0),
-  put-part (c .before .before .before .before .before .args .room .now) (c .before .before .before .before .before .args .at) (omega (arith, c .before .before .before .before .before .pre .1)) (written (c .before .before .before .before .before .args .n)) _ (c .before .before .fill-number .ensures .1),
+  put-part (c .before .before .before .before .before .args .room .now) (c .before .before .before .before .before .args .at) (omega (arith, c .before .before .before .before .before .pre .1)) (written (c .before .before .before .before .before .args .n)) _
+      (c .before .before .fill-number .ensures .1),
 )
 
 pub put-at-spec : {M : Type 1} → statement M

@@ -25,10 +25,12 @@ fill-number-requires : tie.Need-fill-number-requires
 fill-number-requires c κs = (omega arith, omega (arith, c .before .before .number-size .ensures .0))
 
 slice-aggregate-result-3 : tie.Need-slice-aggregate-result-3
-slice-aggregate-result-3 c = part-size (c .before .before .before .before .before .before .before .before .before .args .n) (c .before .before .before .before .before .before .before .before .before .args .room .now) _ (omega arith) (omega (arith, c .before .before .before .before .before .before .number-size .ensures .0)) (c .before .before .before .fill-number .ensures .1) (c .before .before .before .fill-number .ensures .0)
+slice-aggregate-result-3 c = part-size (c .before .before .before .before .before .before .before .before .before .args .n) (c .before .before .before .before .before .before .before .before .before .args .room .now) _ (omega arith)
+    (omega (arith, c .before .before .before .before .before .before .number-size .ensures .0)) (c .before .before .before .fill-number .ensures .1) (c .before .before .before .fill-number .ensures .0)
 
 returns-3 : tie.Need-returns-3
-returns-3 c = part-written (c .before .before .before .before .before .before .before .before .before .args .n) (c .before .before .before .before .before .before .before .before .before .args .room .now) _ (omega arith) (omega (arith, c .before .before .before .before .before .before .number-size .ensures .0)) (c .before .before .before .fill-number .ensures .1) (c .before .before .before .fill-number .ensures .0)
+returns-3 c = part-written (c .before .before .before .before .before .before .before .before .before .args .n) (c .before .before .before .before .before .before .before .before .before .args .room .now) _ (omega arith)
+    (omega (arith, c .before .before .before .before .before .before .number-size .ensures .0)) (c .before .before .before .fill-number .ensures .1) (c .before .before .before .fill-number .ensures .0)
 
 pub put-number-spec : {M : Type 1} → statement M
 put-number-spec =

@@ -30,7 +30,9 @@ add-push : tie.Need-add-push Inv-loop μ-loop
 add-push c = omega (arith, c .before .before .before .before .before .before .before .before .before .before .before .pre, c .before .loop-test .taken)
 
 push-requires : tie.Need-push-requires Inv-loop μ-loop
-push-requires c κs = omega (arith, c .before .before .before .before .before .before .before .before .before .before .before .before .before .pre, c .before .before .before .loop-test .taken, c .before .before .before .before .loop .inv .heads, c .before .before .before .before .loop .inv .nexts, c .before .before .before .before .before .before .before .fill .kept .1 .1 .0)
+push-requires c κs =
+    let l = c .before .before .before .before .loop .inv in
+    omega (arith, c .before .before .before .before .before .before .before .before .before .before .before .before .before .pre, c .before .before .before .loop-test .taken, l .heads, l .nexts, c .before .before .before .before .before .before .before .fill .kept .1 .1 .0)
 
 at16-requires-2 : tie.Need-at16-requires-2 Inv-loop μ-loop
 at16-requires-2 c κs = search needs
@@ -42,10 +44,17 @@ add-push-2 : tie.Need-add-push-2 Inv-loop μ-loop
 add-push-2 c = omega (arith, c .before .before .before .before .before .before .before .before .before .before .before .before .before .before .before .before .before .before .before .pre, c .before .before .before .before .before .before .before .before .before .loop-test .taken)
 
 push-requires-2 : tie.Need-push-requires-2 Inv-loop μ-loop
-push-requires-2 c κs = omega (arith, c .before .before .before .before .before .before .before .before .before .before .before .before .before .before .before .before .before .before .before .before .before .pre, c .before .before .before .before .before .before .before .before .before .before .before .loop-test .taken, c .before .before .before .before .before .before .before .before .before .before .before .before .loop .inv .heads, c .before .before .before .before .before .before .before .before .before .before .before .before .loop .inv .nexts, c .before .before .before .before .before .before .before .before .before .before .before .before .before .before .before .fill .kept .1 .1 .0, c .before .before .before .before .before .before .before .push .kept .1 .1 .1 .0, c .before .before .before .before .before .before .before .push .kept .1 .1 .1 .1 .0)
+push-requires-2 c κs =
+    let l = c .before .before .before .before .before .before .before .before .before .before .before .before .loop .inv in
+    let t = c .before .before .before .before .before .before .before .before .before .before .before .loop-test .taken in
+    let f = c .before .before .before .before .before .before .before .before .before .before .before .before .before .before .before .fill .kept .1 .1 .0 in
+    let p = c .before .before .before .before .before .before .before .push .kept in
+    omega (arith, c .before .before .before .before .before .before .before .before .before .before .before .before .before .before .before .before .before .before .before .before .before .pre, t, l .heads, l .nexts, f, p .1 .1 .1 .0, p .1 .1 .1 .1 .0)
 
 add-i : tie.Need-add-i Inv-loop μ-loop
-add-i c = omega (arith, c .before .before .before .before .before .before .before .before .before .before .before .before .before .before .before .before .before .before .before .before .before .before .before .before .before .before .pre, c .before .before .before .before .before .before .before .before .before .before .before .before .before .before .before .before .loop-test .taken)
+add-i c =
+    let t = c .before .before .before .before .before .before .before .before .before .before .before .before .before .before .before .before .loop-test .taken in
+    omega (arith, c .before .before .before .before .before .before .before .before .before .before .before .before .before .before .before .before .before .before .before .before .before .before .before .before .before .before .pre, t)
 
 loop-less : tie.Need-loop-less Inv-loop μ-loop
 loop-less c = omega (arith, c .before .before .before .before .before .before .before .before .before .before .before .before .before .before .before .before .loop-test .taken)
@@ -54,7 +63,11 @@ loop-again : tie.Need-loop-again Inv-loop μ-loop
 loop-again c =
     let p = c .before .before .before .before .before .before .before .before .before .before .before .before .push in
     let q = c .before .before .before .before .push2 in
-    indexing-more (c .before .before .before .before .before .before .before .before .before .before .before .before .before .before .before .before .before .loop .inv) (c .before .before .before .before .before .before .before .before .before .before .before .before .before .before .before .before .loop-test .taken) (c .before .before .before .before .before .before .before .before .before .before .before .before .before .before .before .at16 .ensures .0) (p .ensures) (p .kept .1 .1 .1 .0) (p .kept .1 .1 .1 .1 .0) (c .before .before .before .before .before .before .before .at162 .ensures .0) (q .ensures) (q .kept .1 .1 .1 .0) (q .kept .1 .1 .1 .1 .0)
+    indexing-more (c .before .before .before .before .before .before .before .before .before .before .before .before .before .before .before .before .before .loop .inv)
+    (c .before .before .before .before .before .before .before .before .before .before .before .before .before .before .before .before .loop-test .taken)
+    (c .before .before .before .before .before .before .before .before .before .before .before .before .before .before .before .at16 .ensures .0) (p .ensures)
+    (p .kept .1 .1 .1 .0) (p .kept .1 .1 .1 .1 .0) (c .before .before .before .before .before .before .before .at162 .ensures .0) (q .ensures) (q .kept .1 .1 .1 .0)
+    (q .kept .1 .1 .1 .1 .0)
 
 same-length : tie.Need-same-length Inv-loop μ-loop
 same-length c = c .before .loop .inv .heads ∙ c .before .before .before .before .fill .kept .1 .1 .0

@@ -33,8 +33,10 @@ same-length-2 c = search needs
 
 returns : tie.Need-returns
 returns c =
-    let l = c .before .before .before .before .before .before .before .before .before .before .before .args .dist .now in
-    (lowered-less _ _ l (omega arith) (omega (arith, c .before .before .before .before .before .before .if1 .taken)), open-lower _ _ l (c .before .before .before .before .before .before .before .before .before .before .before .pre .1) (omega arith) (not-true _ (c .before .before .before .before .if2 .taken)) (c .before .before .write-up .ensures))
+    let l = c .before .before .before .before .before .before .before .before .before .before .before .args .dist .now in (
+      lowered-less _ _ l (omega arith) (omega (arith, c .before .before .before .before .before .before .if1 .taken)),
+      open-lower _ _ l (c .before .before .before .before .before .before .before .before .before .before .before .pre .1) (omega arith) (not-true _ (c .before .before .before .before .if2 .taken)) (c .before .before .write-up .ensures),
+    )
 
 same-length-3 : tie.Need-same-length-3
 same-length-3 c = search needs

@@ -17,14 +17,14 @@ mul-next-2 c = search needs
 slice-write-next : tie.Need-slice-write-next
 slice-write-next c = search needs
 
-cast-head : tie.Need-cast-head
-cast-head c = search needs
+cast-first : tie.Need-cast-first
+cast-first c = search needs
 
-mul-head : tie.Need-mul-head
-mul-head c = search needs
+mul-first : tie.Need-mul-first
+mul-first c = search needs
 
-slice-write-head : tie.Need-slice-write-head
-slice-write-head c = search needs
+slice-write-first : tie.Need-slice-write-first
+slice-write-first c = search needs
 
 mul-next-3 : tie.Need-mul-next-3
 mul-next-3 c = search needs
@@ -39,7 +39,7 @@ same-length-2 : tie.Need-same-length-2
 same-length-2 c = search needs
 
 returns : tie.Need-returns
-returns c = pushed (c .before .before .args .head .now) (c .before .before .args .next .now) (omega arith) (omega arith) (omega arith)
+returns c = pushed (c .before .before .args .first .now) (c .before .before .args .next .now) (omega arith) (omega arith) (omega arith)
 
 same-length-3 : tie.Need-same-length-3
 same-length-3 c = search needs
@@ -55,9 +55,9 @@ push-spec =
     slice-read-next
     mul-next-2
     slice-write-next
-    cast-head
-    mul-head
-    slice-write-head
+    cast-first
+    mul-first
+    slice-write-first
     mul-next-3
     slice-write-next-2
     same-length

@@ -68,7 +68,8 @@ offer-requires c κs =
     let p = start (c .before .before .before .before .before .before .before .before .before .before) .pre in
     let l = low (c .before .before .before .before .before .before .before .before) in
     let i = c .before .before .before .before .before .before .before .before .before .loop .inv in
-    (omega (arith, p .0 .ends .a-in _ l (c .before .before .before .before .before .before .if1 .taken), p .0 .ends .b-in _ l (c .before .before .before .before .before .before .if1 .taken), p .1 .1 .0, i .0 .same, i .1, c .before .before .before .before .before .at162 .ensures, c .before .before .before .before .at163 .ensures), i .2)
+    let t = c .before .before .before .before .before .before .if1 .taken in
+    (omega (arith, p .0 .ends .a-in _ l t, p .0 .ends .b-in _ l t, p .1 .1 .0, i .0 .same, i .1, c .before .before .before .before .before .at162 .ensures, c .before .before .before .before .at163 .ensures), i .2)
 
 at16-requires-4 : tie.Need-at16-requires-4 Inv-loop μ-loop
 at16-requires-4 c κs = search needs
@@ -83,8 +84,11 @@ loop-again c =
     let e = c .at164 .ensures .0 in
     ⊎-elim
     (λ w.
-    rw (w .12, w .13)
-    (walking-more (inv .0) refl l (w .0 .taken) (w .1 .ensures .0) (w .2 .ensures .0) (omega (arith, w .3 .ensures, w .4 .ensures)) (w .7 .ensures .0) (w .7 .kept .1 .1 .1 .1 .1 .1 .0) e (omega (arith, e, down (c .before .before .before))), w .7 .kept .1 .1 .1 .1 .1 .1 .1 .0 ∙ inv .1, w .7 .ensures .1))
+    rw (w .12, w .13) (
+      walking-more (inv .0) refl l (w .0 .taken) (w .1 .ensures .0) (w .2 .ensures .0) (omega (arith, w .3 .ensures, w .4 .ensures)) (w .7 .ensures .0) (w .7 .kept .1 .1 .1 .1 .1 .1 .0) e (omega (arith, e, down (c .before .before .before))),
+      w .7 .kept .1 .1 .1 .1 .1 .1 .1 .0 ∙ inv .1,
+      w .7 .ensures .1,
+    ))
     (λ w. rw (w .1, w .2) (walking-skip (inv .0) refl (λ t. not-both t (w .0 .left)) e (omega (arith, e, down (c .before .before .before))), inv .1, inv .2))
     (c .before .if1 .came)
 

@@ -64,10 +64,17 @@ relax-requires c κs =
     (p .0, (p .1 .0, ((t, small R t few, omega (arith, few, flags-more R t few), omega (arith, p .1 .1, many (c .before .before .before .before .before .before .before)), omega (arith, few, R .rungs, w .kept .1 .1 .1 .0)), taken-off R t few (w .ensures))))
 
 slice-aggregate-nearest-2 : tie.Need-slice-aggregate-nearest-2 Inv-loop μ-loop
-slice-aggregate-nearest-2 c = sym (c .before .before .before .before .relax .kept .1 .1 .1 .1 .1 .1 .1 .1 .1 .1 .0 ∙ c .before .before .before .before .before .before .before .before .before .write-up .kept .1 .1 .1 .0 ∙ c .before .before .before .before .before .before .before .before .before .before .before .before .loop .inv .rungs)
+slice-aggregate-nearest-2 c =
+    let r = c .before .before .before .before .relax .kept in
+    let w = c .before .before .before .before .before .before .before .before .before .write-up .kept in
+    sym (r .1 .1 .1 .1 .1 .1 .1 .1 .1 .1 .0 ∙ w .1 .1 .1 .0 ∙ c .before .before .before .before .before .before .before .before .before .before .before .before .loop .inv .rungs)
 
 nearest-requires-2 : tie.Need-nearest-requires-2 Inv-loop μ-loop
-nearest-requires-2 c κs = (omega (arith, start (c .before .before .before .before .before .before .before .before .before .before .before .before .before) .pre .1 .1, c .before .before .before .before .relax .kept .1 .1 .1 .1 .1 .1 .1 .1 .1 .1 .0, c .before .before .before .before .before .before .before .before .before .write-up .kept .1 .1 .1 .0, c .before .before .before .before .before .before .before .before .before .before .before .before .loop .inv .rungs), c .before .before .before .before .relax .ensures .1 .ladder)
+nearest-requires-2 c κs =
+    let s = start (c .before .before .before .before .before .before .before .before .before .before .before .before .before) in
+    let r = c .before .before .before .before .relax in
+    let w = c .before .before .before .before .before .before .before .before .before .write-up .kept in
+    (omega (arith, s .pre .1 .1, r .kept .1 .1 .1 .1 .1 .1 .1 .1 .1 .1 .0, w .1 .1 .1 .0, c .before .before .before .before .before .before .before .before .before .before .before .before .loop .inv .rungs), r .ensures .1 .ladder)
 
 loop-less : tie.Need-loop-less Inv-loop μ-loop
 loop-less c =
@@ -80,7 +87,10 @@ loop-again c =
     let p = start (c .before .before .before .before .before .before .before .before .before .before .before .before .before .before) .pre in
     let R = c .before .before .before .before .before .before .before .before .before .before .before .before .before .loop .inv in
     let r = c .before .before .before .before .before .relax in
-    turn R (c .before .before .before .before .before .before .before .before .before .before .before .before .loop-test .taken) (p .1 .1 .1) (p .0) (p .1 .1 .0) (r .kept .1 .1 .1 .1 .1 .1 .1 .1 .1 .0) (r .ensures .0) (r .kept .1 .1 .1 .1 .1 .1 .1 .1 .1 .1 .0 ∙ c .before .before .before .before .before .before .before .before .before .before .write-up .kept .1 .1 .1 .0 ∙ R .rungs) (r .ensures .1) (c .nearest2 .ensures)
+    turn R (c .before .before .before .before .before .before .before .before .before .before .before .before .loop-test .taken) (p .1 .1 .1) (p .0) (p .1 .1 .0)
+    (r .kept .1 .1 .1 .1 .1 .1 .1 .1 .1 .0) (r .ensures .0)
+    (r .kept .1 .1 .1 .1 .1 .1 .1 .1 .1 .1 .0 ∙ c .before .before .before .before .before .before .before .before .before .before .write-up .kept .1 .1 .1 .0 ∙ R .rungs)
+    (r .ensures .1) (c .nearest2 .ensures)
 
 same-length : tie.Need-same-length Inv-loop μ-loop
 same-length c = many (c .before)

@@ -9,26 +9,28 @@ use Rattle.shortest.proofs.shortest_tree.Tie as tie
 array-share-prefix-present : tie.Need-array-share-prefix-present
 array-share-prefix-present c = search needs
 
-slice-aggregate-distances : tie.Need-slice-aggregate-distances
-slice-aggregate-distances c = sym (length-first 2048 _ _ (c .before .before .before .before .before .before .pre .0 .few))
+slice-aggregate-search : tie.Need-slice-aggregate-search
+slice-aggregate-search c = sym (length-first 2048 _ _ (c .before .before .before .before .before .before .before .before .pre .0 .few))
 
-distances-requires : tie.Need-distances-requires
-distances-requires c κs =
-    let p = c .before .before .before .before .before .before .before .pre in
-    (all-sides _ (p .0) (p .1 .2), (p .1 .0, p .1 .1, p .1 .3))
+search-requires : tie.Need-search-requires
+search-requires c κs =
+    let p = c .before .before .before .before .before .before .before .before .before .pre in
+    let q = p .1 .1 in
+    (all-sides _ (p .0) (q .2), (p .1 .0, (q .0, q .1, q .3)))
 
 array-share-prefix-present-2 : tie.Need-array-share-prefix-present-2
 array-share-prefix-present-2 c = search needs
 
 slice-aggregate-hang : tie.Need-slice-aggregate-hang
-slice-aggregate-hang c = sym (length-first 2048 _ _ (c .before .before .before .before .before .before .before .before .before .before .before .pre .0 .few))
+slice-aggregate-hang c = sym (length-first 2048 _ _ (c .before .before .before .before .before .before .before .before .before .before .before .before .before .pre .0 .few))
 
 hang-requires : tie.Need-hang-requires
 hang-requires c κs =
-    let p = c .before .before .before .before .before .before .before .before .before .before .before .before .before .pre in
-    let d = c .before .before .before .before .before .distances in
-    let z = all-sides _ (p .0) (p .1 .2) in
-    (z, (notes-low z _ (p .1 .0) _ _ (d .ensures) (omega (arith, p .1 .3, d .kept .1 .1 .1 .1 .1 .1 .0)), p .1 .4))
+    let p = c .before .before .before .before .before .before .before .before .before .before .before .before .before .before .before .pre in
+    let q = p .1 .1 in
+    let d = c .before .before .before .before .before .search in
+    let z = all-sides _ (p .0) (q .2) in
+    (z, (notes-low z _ (q .0) _ _ (d .ensures) (omega (arith, q .3, d .kept .1 .1 .1 .1 .1 .1 .1 .1 .0)), q .4))
 
 same-length : tie.Need-same-length
 same-length c = search needs
@@ -38,16 +40,17 @@ same-length-2 c = search needs
 
 returns : tie.Need-returns
 returns c =
-    let p = c .before .before .before .before .before .before .before .before .before .before .before .before .before .before .before .before .pre in
-    shortest-is _ (p .0) (p .1 .2) _ (p .1 .0) (c .before .before .before .before .before .before .before .before .before .before .before .before .before .before .before .before .args .dist .now) (c .before .before .before .before .before .before .before .before .before .before .before .before .before .before .before .before .args .tree .now) (c .before .before .before .before .before .before .before .before .distances .ensures) (c .before .before .hang .ensures)
+    let s = c .before .before .before .before .before .before .before .before .before .before .before .before .before .before .before .before .before .before in
+    let q = s .pre .1 .1 in
+    shortest-is _ (s .pre .0) (q .2) _ (q .0) (s .args .dist .now) (s .args .tree .now) (c .before .before .before .before .before .before .before .before .search .ensures) (c .before .before .hang .ensures)
 
 pub shortest-tree-spec : {M : Type 1} → statement M
 shortest-tree-spec =
     tie.close
     (tie.spec
     array-share-prefix-present
-    slice-aggregate-distances
-    distances-requires
+    slice-aggregate-search
+    search-requires
     array-share-prefix-present-2
     slice-aggregate-hang
     hang-requires

@@ -67,7 +67,10 @@ same-length : tie.Need-same-length Inv-loop μ-loop
 same-length c = long (c .before .before .before .before .before .before)
 
 returns : tie.Need-returns Inv-loop μ-loop
-returns c = let C = c .before .before .before .before .before .before .loop .inv in let z = c .before .before .before .before .before .before .before .before .pre in written (c .before .before .before .before .before .before .before .before .args .ladder .now) (z .0 .0) (z .0 .1) C (climbed-early C (simp length-set (z .0 .1)) (c .before .before .before .before .before .loop-test .taken) (c .before .before .lesser .ensures) (c .if1 .taken))
+returns c =
+    let C = c .before .before .before .before .before .before .loop .inv in
+    let z = c .before .before .before .before .before .before .before .before .pre in
+    written (c .before .before .before .before .before .before .before .before .args .ladder .now) (z .0 .0) (z .0 .1) C (climbed-early C (simp length-set (z .0 .1)) (c .before .before .before .before .before .loop-test .taken) (c .before .before .lesser .ensures) (c .if1 .taken))
 
 mul-ladder-2 : tie.Need-mul-ladder-2 Inv-loop μ-loop
 mul-ladder-2 c = omega (arith, c .before .before .before .before .before .before .loop .inv .within, many (c .before .before .before .before .before .before))

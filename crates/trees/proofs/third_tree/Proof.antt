@@ -12,13 +12,17 @@ index-of-requires-2 : tie.Need-index-of-requires-2
 index-of-requires-2 c κs = search needs
 
 third-tree-requires : tie.Need-third-tree-requires
-third-tree-requires c κs = let p = c .before .before .before .before .before .before .before .before .before .before .pre in (walkable-at (p .0 .0) (c .before .before .index-of .ensures) (c .before .index-of2 .ensures) (p .1 .0), omega arith)
+third-tree-requires c κs =
+    let p = c .before .before .before .before .before .before .before .before .before .before .pre in
+    (walkable-at (p .0 .0) (c .before .before .index-of .ensures) (c .before .index-of2 .ensures) (p .1 .0), omega arith)
 
 same-length : tie.Need-same-length
 same-length c = omega arith
 
 returns : tie.Need-returns
-returns c = let p = c .before .before .before .before .before .before .before .before .before .before .before .before .before .pre in third-at (p .0 .0) (c .before .before .before .before .before .index-of .ensures) (c .before .before .before .before .index-of2 .ensures) (p .1 .0) (p .1 .1) (p .0 .1) (c .before .before .third-tree .ensures)
+returns c =
+    let p = c .before .before .before .before .before .before .before .before .before .before .before .before .before .pre in
+    third-at (p .0 .0) (c .before .before .before .before .before .index-of .ensures) (c .before .before .before .before .index-of2 .ensures) (p .1 .0) (p .1 .1) (p .0 .1) (c .before .before .third-tree .ensures)
 
 pub third-tree-spec : {M : Type 1} → statement M
 third-tree-spec =

@@ -33,7 +33,14 @@ add-result-4 : tie.Need-add-result-4
 add-result-4 c = search needs
 
 returns : tie.Need-returns
-returns c = (omega (arith, head-length (c .before .before .before .before .before .args .head) (c .before .before .before .before .before .args .count), c .number-size5 .ensures .0, c .before .number-size4 .ensures .0, c .before .before .number-size3 .ensures .0, c .before .before .before .number-size2 .ensures .0, c .before .before .before .before .number-size .ensures .0), omega arith)
+returns c =
+    let start = c .before .before .before .before .before in
+    let number-size′ = c .before .before .before .before .number-size in
+    let number-size2′ = c .before .before .before .number-size2 in
+    let number-size3′ = c .before .before .number-size3 in
+    let number-size4′ = c .before .number-size4 in
+    let number-size5′ = c .number-size5 in
+    (omega (arith, head-length (start .args .head) (start .args .count), number-size5′ .ensures .0, number-size4′ .ensures .0, number-size3′ .ensures .0, number-size2′ .ensures .0, number-size′ .ensures .0), omega arith)
 
 pub head-size-spec : {M : Type 1} → statement M
 head-size-spec =

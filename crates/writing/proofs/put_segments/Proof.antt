@@ -1,28 +1,30 @@
 -- `put_segments` meets its contract. The loop's invariant: the first i segments are put into the room. Assumes nothing.
 use Prim.Native.Nat.{_-_}
 use native.Mathlib.Omega.{arith}
-use lib.ListN.{take}
-use Rattle.writing.proofs.Puts.{PutTo, begin-put, wrote-length, taken-length, put-fits, put-on, put-all}
+use lib.ListN.{length}
+use Rattle.net.specs.Net.{segmentsOf}
+use Rattle.net.proofs.Segments.{length-segments}
+use Rattle.writing.proofs.Puts.{PutTo, begin-put, wrote-length, put-fits, put-on, put-all}
 use Rattle.writing.proofs.put_segments.Statement.{statement}
 use Rattle.writing.proofs.put_segments.Tie as tie
 
 abbrev Inv-loop : tie.InvT-loop
-Inv-loop room₀ at count segments next₀ i₀ room next i = PutTo room₀ at (take count segments) room next i
+Inv-loop room₀ at a b lengths next₀ i₀ room next i = PutTo room₀ at (segmentsOf a b lengths) room next i
 
 abbrev μ-loop : tie.MeasureT-loop
-μ-loop room₀ at count segments next₀ i₀ room next i = count - i
+μ-loop room₀ at a b lengths next₀ i₀ room next i = length a - i
 
 loop-holds : tie.Need-loop-holds Inv-loop μ-loop
-loop-holds c = begin-put _ _ _ (c .before .pre .1 .room-long)
+loop-holds c = begin-put _ _ _ (c .before .before .before .before .pre .2 .room-long)
 
-mul-s : tie.Need-mul-s Inv-loop μ-loop
-mul-s c = omega arith
-
-array-copy-out-s : tie.Need-array-copy-out-s Inv-loop μ-loop
-array-copy-out-s c = omega (arith, c .before .before .before .pre .0)
+segment-at-requires : tie.Need-segment-at-requires Inv-loop μ-loop
+segment-at-requires c κs = let p = c .before .before .before .before .before .before .pre in (omega arith, omega (arith, p .0), omega (arith, p .1))
 
 put-segment-requires : tie.Need-put-segment-requires Inv-loop μ-loop
-put-segment-requires c κs = put-fits (c .before .before .before .before .before .args .t4) (c .before .before .before .before .before .args .count) (c .before .before .before .before .before .pre .0) (c .before .before .before .before .before .good .1 .1 .1 .0 .1 .0 .1) (c .before .before .before .loop .inv) (c .before .before .before .before .before .pre .1) (omega arith)
+put-segment-requires c κs =
+    let z = c .before .before .before .before .before .before .before .before in
+    let n = length-segments (z .args .a .now) (z .args .b .now) (z .args .lengths .now) (z .pre .0) (z .pre .1) in
+    put-fits (c .before .before .before .loop .inv) (z .pre .2) (omega arith) (c .before .segment-at .ensures)
 
 add-i : tie.Need-add-i Inv-loop μ-loop
 add-i c = omega arith
@@ -31,13 +33,19 @@ loop-less : tie.Need-loop-less Inv-loop μ-loop
 loop-less c = omega arith
 
 loop-again : tie.Need-loop-again Inv-loop μ-loop
-loop-again c = put-on (c .before .before .before .before .before .before .before .before .args .t4) (c .before .before .before .before .before .before .before .before .args .count) (c .before .before .before .before .before .before .before .before .pre .0) (c .before .before .before .before .before .before .before .before .good .1 .1 .1 .0 .1 .0 .1) (c .before .before .before .before .before .before .loop .inv) (c .before .before .before .before .before .before .before .before .pre .1) (omega arith) (c .before .before .put-segment .ensures .0) (c .before .before .put-segment .ensures .1)
+loop-again c =
+    let z = c .before .before .before .before .before .before .before .before .before .before .before in
+    let n = length-segments (z .args .a .now) (z .args .b .now) (z .args .lengths .now) (z .pre .0) (z .pre .1) in
+    put-on (c .before .before .before .before .before .before .loop .inv) (z .pre .2) (omega arith) (c .before .before .before .before .segment-at .ensures) (c .before .before .put-segment .ensures .0) (c .before .before .put-segment .ensures .1)
 
 same-length : tie.Need-same-length Inv-loop μ-loop
 same-length c = wrote-length (c .before .loop .inv .wrote)
 
 returns : tie.Need-returns Inv-loop μ-loop
-returns c = put-all (c .before .loop .inv) (omega (arith, taken-length (c .before .before .before .args .t4) (c .before .before .before .args .count) (c .before .before .before .pre .0) (c .before .before .before .good .1 .1 .1 .0 .1 .0 .1)))
+returns c =
+    let z = c .before .before .before .before .before .before in
+    let n = length-segments (z .args .a .now) (z .args .b .now) (z .args .lengths .now) (z .pre .0) (z .pre .1) in
+    put-all (c .before .loop .inv) (omega arith)
 
 pub put-segments-spec : {M : Type 1} → statement M
 put-segments-spec =
@@ -46,8 +54,7 @@ put-segments-spec =
     Inv-loop
     μ-loop
     loop-holds
-    mul-s
-    array-copy-out-s
+    segment-at-requires
     put-segment-requires
     add-i
     loop-less

@@ -1,6 +1,6 @@
 //! A stand-in for the program, to test the comparison with: it prints what the
 //! reference says. The environment variable STAND_IN names a slip of document
-//! 01 to make, or `Silent`, `Cut` or `Crash` to do something worse.
+//! 01 to make, or `Silent`, `Cut`, `Crash` or `Status` to do something worse.
 
 use std::env;
 use std::io::{self, Read, Write};
@@ -23,5 +23,10 @@ fn main() -> io::Result<()> {
     if way == "Cut" && output.len() > 1_000 {
         output.pop();
     }
-    io::stdout().write_all(output.as_bytes())
+    io::stdout().write_all(output.as_bytes())?;
+    // A refusal ends with another status than 0.
+    if way == "Status" && output.starts_with("refused") {
+        process::exit(1);
+    }
+    Ok(())
 }

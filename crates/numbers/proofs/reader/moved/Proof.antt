@@ -1,8 +1,8 @@
 -- `moved` meets its contract: a walk of its MIR, by hand. A reader is made anew of the bytes and another place. Assumes nothing.
-use Rattle.lent.proofs.Walk.{refl, List, [], _∷_, URA, Model, Heap, Tables, factI, GhostRules, Running, givenOf, _$_, !, by, move, keep, drop, agg, whole, sub, look-in, look, init, stop, fld, from, load, of-opd, and-then, no-more, assigns, returns, free0, Over, begins, at, gone}
+use Rattle.by_hand.proofs.Walk.{refl, List, [], _∷_, URA, Model, Heap, Tables, factI, GhostRules, Running, givenOf, _$_, !, by, move, keep, drop, agg, whole, sub, look-in, look, init, stop, fld, from, load, of-opd, and-then, no-more, assigns, returns, free0, Over, begins, at, gone}
 use types.Kit.{use1}
-use Rattle.lent.proofs.Types as T
-use Rattle.lent.proofs.Held.{Held, of-data, Walked, own-of, proved}
+use Rattle.by_hand.proofs.Types as T
+use Rattle.by_hand.proofs.Held.{Held, of-data, Walked, own-of, proved}
 use Rattle.numbers.proofs.Readers.{bytes, reader, reader-made, reader-opened}
 use Rattle.numbers.proofs.reader.moved.Key as key
 use Rattle.numbers.proofs.reader.moved as f

@@ -1,7 +1,7 @@
 -- `new` meets its contract: a walk of its MIR, by hand. A reader is made of the bytes and 0, in the result's local. Assumes nothing.
-use Rattle.lent.proofs.Walk.{refl, List, [], _∷_, lit<, URA, Model, Heap, Tables, factI, GhostRules, Running, givenOf, _$_, !, by, move, keep, drop, agg, look, init, stop, from, lit, and-then, no-more, assigns, returns, free0, Over, begins, at, gone}
+use Rattle.by_hand.proofs.Walk.{refl, List, [], _∷_, lit<, URA, Model, Heap, Tables, factI, GhostRules, Running, givenOf, _$_, !, by, move, keep, drop, agg, look, init, stop, from, lit, and-then, no-more, assigns, returns, free0, Over, begins, at, gone}
 use types.Kit.{use1}
-use Rattle.lent.proofs.Held.{Held, Walked, own-of, proved}
+use Rattle.by_hand.proofs.Held.{Held, Walked, own-of, proved}
 use Rattle.numbers.proofs.Readers.{bytes, reader, reader-made}
 use Rattle.numbers.proofs.reader.new.Key as key
 use Rattle.numbers.proofs.reader.new as f

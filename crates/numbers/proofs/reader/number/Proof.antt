@@ -1,8 +1,9 @@
 -- `number` meets its contract: a walk of its MIR, by hand. The reader is taken apart, and `number_at` is called on the bytes and the place. Assumes nothing.
-use Rattle.lent.proofs.Walk.{_≡_, refl, List, [], _∷_, URA, id⊢, Model, Heap, Tables, factI, GhostRules, Running, givenOf, _$_, !, by, move, keep, drop, whole, sub, look-in, look, init, stop, fld, from, load, of-opd, assigns, land, returns, free0, u8, now, Is, owned, dat, shr, Over, Callee, callee, begins, args, calls, gone}
+use Rattle.by_hand.proofs.Walk.{_≡_, refl, List, [], _∷_, URA, id⊢, Model, Heap, Tables, factI, GhostRules, Running, givenOf, _$_, !, by, move, keep, drop, whole, sub, look-in, look, init, stop, fld, from, load, of-opd, assigns, land, returns, free0, u8, now, Is, owned, dat, shr, Over, Callee}
+use Rattle.by_hand.proofs.Walk.{callee, begins, args, calls, gone}
 use types.Kit.{use1}
-use Rattle.lent.proofs.Types as T
-use Rattle.lent.proofs.Held.{Held, of-data, Walked, own-of, proved}
+use Rattle.by_hand.proofs.Types as T
+use Rattle.by_hand.proofs.Held.{Held, of-data, Walked, own-of, proved}
 use Rattle.numbers.specs.Numbers.{number}
 use Rattle.numbers.specs.Answers.{numberedOf}
 use Rattle.numbers.proofs.Readers.{numbered, bytes, reader, reader-opened}

@@ -1,0 +1,172 @@
+-- THE NUMBERS OF THE REFUSALS that the functions for C give are those of document 01's table, 1 to 19: `check-listed`, `plan-listed`, `rewrite-listed`,
+-- `margin-listed`, `drawn-listed`. So a packed refusal is never 0 (`packed-not-zero`), and a marked one has 64 bits. Rests on the rules of every
+-- entry; what is read are bytes.
+use mathlib.Core.Path.{_≡_, subst}
+use mathlib.Core.List.{List}
+use mathlib.Core.Option.{Option, none, some}
+use Prim.Native.Nat.{ℕ, _≤_}
+use native.Mathlib.Omega.{arith}
+use lib.ListN.{length}
+use lib.Ieee.{Float}
+use Rattle.net.specs.Net.{Net, every, mostSegments}
+use Rattle.net.specs.Refusals.{Lent}
+use Rattle.net.specs.Building.{buildRefusal, buildAnswer, buildOf, marginRefusal, marginAnswer, marginOf}
+use Rattle.net.specs.declared.Head.{Head}
+use Rattle.net.specs.declared.Refusal.{Refusal}
+use Rattle.net.specs.declared.Tree.{Tree}
+use Rattle.net.specs.declared.Checked.the-variants.{Refused as Unsound}
+use Rattle.margins.specs.Answers.{marginAnswerOf}
+use Rattle.margins.specs.declared.MarginAnswer.the-variants.{Refused as Unmeasured}
+use Rattle.numbers.specs.Numbers.{Bytes, Got, got, refused}
+use Rattle.net.specs.Rules.{BuildRule, MarginRule}
+use Rattle.net.proofs.Faults.{head-range, segment-range, faulty-range}
+use Rattle.net.proofs.Refusals.{build-answers, margin-answers}
+use Rattle.numbers.specs.Rules.{NumberRule}
+use Rattle.reading.specs.Rules.{ReadRule, head-ten-eleven, one-to-four, eight, segment-ten-eleven, five-to-seven, twelve, good}
+use Rattle.writing.specs.Rules.{WriteRule}
+use Rattle.writing.specs.Writing.{netWritten, writeRefusal}
+use Rattle.writing.specs.Answers.{writeAnswerBy, writeAnswerOf}
+use Rattle.writing.specs.declared.WriteAnswer.the-variants.{Refused as Unwritten}
+use Rattle.reading.proofs.Ruled.{read-answers}
+use Rattle.writing.proofs.RuledWriting.{write-answers}
+use Rattle.reading.specs.Answers.{checkRead}
+use Rattle.on_records.specs.Asked.{recordRead, plannedWith, planOf, rewriteOf, marginSaid, marginRead}
+use Rattle.on_records.specs.declared.PlanAnswer.the-variants.{Refused as Unplanned}
+use Rattle.drawn.specs.Drawn.{drawnOf}
+use Rattle.drawn.specs.Says as S
+use Rattle.drawn.specs.Rules.{Means, not-a-number, infinite, below-zero, is-zero, no-multiple, too-long, good as sound, Answers, straight, first-refused, second-refused, together, corner}
+use Rattle.drawn.specs.declared.Run.{Run}
+use Rattle.drawn.specs.declared.Answer.{Answer}
+use Rattle.drawn.specs.declared.Answer.the-variants.{Refused as Undrawn}
+use Rattle.drawn.proofs.Rules.{drawn-answers}
+use Rattle.c_numbers.specs.Named.{mostNumber, packed}
+
+-- one of the numbers 1 to 19
+abbrev pub InTable : ℕ → Type 0
+InTable n = (1 ≤ n) × (n ≤ mostNumber)
+
+pub packed-not-zero : (r : Refusal) → InTable (r .number) → packed r ≡ 0 → ⊥
+packed-not-zero r h e = omega arith
+
+-- 1 TO 7
+fault-listed : {n : ℕ} → (1 ≤ n) × (n ≤ 7) → InTable n
+fault-listed h = omega arith
+
+-- BUILDING, WRITING AND MARGIN, by their rules
+module _ (n : Net) (m : ℕ) where
+  build-refusal : (lent : Lent) {r : Refusal} → buildRefusal every n m lent ≡ some r → InTable (r .number)
+  build-refusal lent e = go (rw e at (build-answers every m n lent))
+    where
+      go : {q : Refusal} → BuildRule every m n lent (some q) → InTable (q .number)
+      go (BuildRule.one-to-seven f) = fault-listed (faulty-range every m n f)
+      go (BuildRule.eight z l) = omega arith
+      go (BuildRule.nine z l a) = omega arith
+
+  write-refusal : (room : ℕ) {r : Refusal} → writeRefusal n m room ≡ some r → InTable (r .number)
+  write-refusal room e = go (rw e at (write-answers m n room))
+    where
+      go : {q : Refusal} → WriteRule m n room (some q) → InTable (q .number)
+      go (WriteRule.one-to-seven f) = fault-listed (faulty-range every m n f)
+      go (WriteRule.eighteen z l) = omega arith
+
+  margin-refusal : (post : ℕ) {r : Refusal} → marginRefusal every n m post ≡ some r → InTable (r .number)
+  margin-refusal post e = go (rw e at (margin-answers every m n post))
+    where
+      go : {q : Refusal} → MarginRule every m n post (some q) → InTable (q .number)
+      go (MarginRule.one-to-seven f) = fault-listed (faulty-range every m n f)
+      go (MarginRule.nine z a) = omega arith
+      go (MarginRule.nineteen z a l) = omega arith
+
+-- READING, by its rules
+abbrev ListedGot : {X : Type 0} → Got X → Type 0
+ListedGot (got x next) = Unit
+ListedGot (refused r) = InTable (r .number)
+
+module _ (bytes : List ℕ) where
+  number-rule : {at : ℕ} {g : Got ℕ} → NumberRule bytes at g → ListedGot g
+  number-rule (NumberRule.stands h k) = tt
+  number-rule (NumberRule.ten h k l) = omega arith
+  number-rule (NumberRule.eleven-zero h k l m e) = omega arith
+  number-rule (NumberRule.eleven-more h) = omega arith
+
+  read-rule : {room : ℕ} {g : Got Net} → ReadRule bytes room g → ListedGot g
+  read-rule (head-ten-eleven b) = number-rule (b .refuses)
+  read-rule (one-to-four h r) = fault-listed (head-range r)
+  read-rule (eight h r l) = omega arith
+  read-rule (segment-ten-eleven h r l s m b) = number-rule (b .refuses)
+  read-rule (five-to-seven h r l s m w q) = fault-listed (segment-range q)
+  read-rule (twelve h r l s m) = omega arith
+  read-rule (good h r l s m) = tt
+
+  read-listed : Bytes bytes → ListedGot (recordRead bytes)
+  unfolding recordRead
+  read-listed all = read-rule (read-answers bytes all mostSegments)
+
+-- THE ANSWERS
+module _ (bytes : List ℕ) (all : Bytes bytes) {r : Refusal} where
+  pub check-listed : checkRead (recordRead bytes) ≡ Unsound r → InTable (r .number)
+  check-listed e = go (recordRead bytes) (read-listed bytes all) e
+    where
+      go : (g : Got Net) → ListedGot g → checkRead g ≡ Unsound r → InTable (r .number)
+      go (got n next) h e = let z : _≡_ {A = ℕ} 0 1 = cc in absurd (omega arith)
+      go (refused q) h e = let z : q ≡ r = cc in rw (← z) h
+
+  pub plan-listed : (lent : Lent) → planOf (recordRead bytes) lent ≡ Unplanned r → InTable (r .number)
+  unfolding buildOf buildAnswer
+  plan-listed lent e = go (recordRead bytes) (read-listed bytes all) e
+    where
+      by : (n : Net) (h : Head) (m : ℕ) (o : Option Refusal) → plannedWith h m (buildAnswer every n o) ≡ Unplanned r → o ≡ some r
+      by n h m none e = let z : _≡_ {A = ℕ} 0 1 = cc in absurd (omega arith)
+      by n h m (some q) e = cc
+
+      go : (g : Got Net) → ListedGot g → planOf g lent ≡ Unplanned r → InTable (r .number)
+      go (got n next) h e = build-refusal n (length (n .segments)) lent (by n (n .head) (length (n .segments)) (buildRefusal every n (length (n .segments)) lent) e)
+      go (refused q) h e = let z : q ≡ r = cc in rw (← z) h
+
+  pub rewrite-listed : (room : ℕ) → rewriteOf (recordRead bytes) room ≡ Unwritten r → InTable (r .number)
+  unfolding writeAnswerOf
+  rewrite-listed room e = go (recordRead bytes) (read-listed bytes all) e
+    where
+      by : (o : Option Refusal) (size : ℕ) → writeAnswerBy o size ≡ Unwritten r → o ≡ some r
+      by none size e = let z : _≡_ {A = ℕ} 0 1 = cc in absurd (omega arith)
+      by (some q) size e = cc
+
+      go : (g : Got Net) → ListedGot g → rewriteOf g room ≡ Unwritten r → InTable (r .number)
+      go (got n next) h e = write-refusal n (length (n .segments)) room (by (writeRefusal n (length (n .segments)) room) (length (netWritten n)) e)
+      go (refused q) h e = let z : q ≡ r = cc in rw (← z) h
+
+  pub margin-listed : (t : Tree) (post : ℕ) → marginRead bytes t post ≡ Unmeasured r → InTable (r .number)
+  unfolding marginOf marginAnswer
+  margin-listed t post e = go (recordRead bytes) (read-listed bytes all) e
+    where
+      by : (n : Net) (o : Option Refusal) → marginAnswerOf (marginAnswer every n o t post) ≡ Unmeasured r → o ≡ some r
+      by n none e = let z : _≡_ {A = ℕ} 0 1 = cc in absurd (omega arith)
+      by n (some q) e = cc
+
+      go : (g : Got Net) → ListedGot g → marginAnswerOf (marginSaid g t post) ≡ Unmeasured r → InTable (r .number)
+      go (got n next) h e = margin-refusal n (length (n .segments)) post (by n (marginRefusal every n (length (n .segments)) post) e)
+      go (refused q) h e = let z : q ≡ r = cc in rw (← z) h
+
+-- A DRAWN RUN
+abbrev ListedSaid : S.Says → Type 0
+ListedSaid (S.sixteenths k) = Unit
+ListedSaid (S.refused n p) = InTable n
+
+means-listed : {p : ℕ} {x : Float} {s : S.Says} → Means p x s → ListedSaid s
+means-listed not-a-number = omega arith
+means-listed infinite = omega arith
+means-listed (below-zero h) = omega arith
+means-listed (is-zero h) = omega arith
+means-listed (no-multiple h) = omega arith
+means-listed (too-long k h l) = omega arith
+means-listed (sound h k l) = tt
+
+answers-listed : {r : Run} {s : S.Says} → Answers r s → ListedSaid s
+answers-listed (straight m) = means-listed m
+answers-listed (first-refused m) = means-listed m
+answers-listed (second-refused m n) = means-listed n
+answers-listed (together m n l) = omega arith
+answers-listed (corner m n l) = tt
+
+pub drawn-listed : (run : Run) {r : Refusal} → drawnOf run ≡ Undrawn r → InTable (r .number)
+drawn-listed run e = subst (λ (a : Answer). ListedSaid (S.saysOf a)) e (answers-listed (drawn-answers run))

@@ -1,2 +1,0 @@
--- What the contracts over lent lists cite. Definitions only.
-pub mod Reading

@@ -1,2 +1,0 @@
--- What the crossings between a lent list of segments and an array say. Definitions only; what is proved of them stands in proofs/.
-pub mod Lists

@@ -1,0 +1,3 @@
+-- What the contracts over lent lists cite. Definitions only.
+pub mod Reading
+pub mod Taking

@@ -1,0 +1,12 @@
+-- The laws of the record, from a few numbers to whole records, over those of the crates `numbers` and `writing`. `Outcomes`, `RoundTrip`, `Lengths` and `Ruled` are what
+-- promises cite; the others are what the proofs of the functions and those four stand on.
+pub mod Steps
+pub mod Carried
+pub mod Passes
+pub mod Parsed
+pub mod RoundTrip
+pub mod Kept
+pub mod Lengths
+pub mod Ruled
+pub mod Outcomes
+pub mod Worked
