@@ -31,7 +31,7 @@ use Rattle.on_records.specs.Asked.{Plans, recordRead, marginSaid, marginRead}
 use Rattle.on_records.specs.Says.{Plan, saysPlanned}
 use Rattle.on_records.specs.declared.PlanAnswer.{PlanAnswer}
 use Rattle.margins.specs.declared.MarginAnswer.the-variants.{Margin}
-use Rattle.margins.proofs.Meaning.{given-below, given-zero, given-source, given-between, given-shortest}
+use Rattle.margins.proofs.Meaning.{given-accepted, given-below, given-zero, given-source, given-between, given-shortest}
 use Rattle.numbers.specs.Numbers.{Bytes, Got, got, refused}
 use Rattle.reading.specs.Reading.{netRead}
 use Rattle.numbers.specs.Putting.{onto}
@@ -142,7 +142,9 @@ module _ (n : Net) (m : ℕ) (fits : length (n .segments) ≤ m) (t : Tree) (pos
   pub margin-as-stated : MarginAsStated n t post z
   unfolding marginIn marginBy
   margin-as-stated =
+      let a = given-accepted n m t post is given in
       record {
+        as-stated = trees-as-stated n m fits (a .0) (a .1);
         difference = is-difference;
         below-zero = given-below n m t post is given;
         zero-at-limit = given-zero n m t post is given;

@@ -126,6 +126,8 @@ pub record PlannedAsStated (bytes l s w l′ s′ w′ : List ℕ) (q : Plan) : 
 -- A MARGIN z that is given for a post in the named tree: "It is signed, and below zero exactly when the post breaks the
 -- limit. For the source it is 0."
 pub record MarginAsStated (n : Net) (t : Tree) (post : ℕ) (z : ℤ) : Type 0 where
+  -- the trees and the least lengths that it is worked out from
+  pub as-stated : TreesAsStated n
   -- "(p + q) × D minus q × path in the tree"
   pub difference : z ≡ subℕ ((n .head .p + n .head .q) * at (leastLengthsOf every n) post)
       (n .head .q * pathIn (n .segments) (n .head .posts) (treeOf every n t) post)
