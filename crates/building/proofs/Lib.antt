@@ -1,5 +1,4 @@
 -- Laws for the proofs of building.
-pub mod Putting
 pub mod Ways
 pub mod Unique
 pub mod Meaning

@@ -1,7 +1,7 @@
 -- `put` meets its contract: the entries stand in the list, one after the other. Assumes nothing.
 use Prim.Native.Nat.{_-_}
 use lib.ListN.{length}
-use Rattle.building.proofs.Putting.{Put, put-none, put-more, put-all}
+use Rattle.net.proofs.Blend.{Put, put-none, put-more, put-all}
 use native.Mathlib.Omega.{arith}
 use Rattle.building.proofs.put.Statement.{statement}
 use Rattle.building.proofs.put.Tie as tie
