@@ -215,9 +215,6 @@ indexed-start a b walked first after n e = record { links = λ g lengths l ew. r
 pub indexed-end : {a b walked first after : List ℕ} {n m j : ℕ} → n ≡ m → j ≤ 0 → Indexed a b walked n j first after → Indexed a b walked m 0 first after
 indexed-end {j = j} e h ix = let z : j ≡ 0 = omega arith in rw (← e, ← z) ix
 
-pub inside-size : {a b : List ℕ} {n m : ℕ} → m ≡ n → EndsIn n a b → EndsIn m a b
-inside-size e h = rw e h
-
 pub indexed-turn : {a b walked first after : List ℕ} {n j : ℕ} → Indexed a b walked n j first after → EndsIn n a b → 0 < j → j ≤ length a → n ≤ length first → n ≤ length after
     → (x y : ℕ) → x ≡ getD a (j - 1) 0 → y ≡ getD b (j - 1) 0 → (first′ after′ : List ℕ) → (first′, after′) ≡ adoptedBoth (j - 1) x y walked (first, after)
     → Indexed a b walked n (j - 1) first′ after′

@@ -3,7 +3,7 @@
 use mathlib.Core.Path.{_≡_, refl, sym, _∙_}
 use mathlib.Core.Bool.{Bool, true, false, cond}
 use mathlib.Core.List.{List}
-use Prim.Native.Nat.{ℕ, _+_, _-_, _*_, _≤_, _<_}
+use Prim.Native.Nat.{ℕ, _+_, _-_, _*_, _/_, _≤_, _<_}
 use native.Mathlib.Nat.{mul-le-mul}
 use native.Mathlib.Omega.{arith}
 use lib.Dec.{eqb, ltb}
@@ -28,8 +28,8 @@ less-not x y z h = sym (le-ltb (x + y) z (omega arith))
 pub product-fits : (r x : ℕ) → r ≤ mostRatio + mostRatio → x ≤ noneYet → r * x < 18446744073709551616
 product-fits r x h k = let z : r * x ≤ 20000 * 281474976710656 = mul-le-mul {n₂ = 20000} {m₂ = 281474976710656} h k in omega arith
 
-pub over-same : (r s p q x y : ℕ) → r ≡ p + q → s ≡ q → ltb (r * x) (s * y) ≡ ltb ((p + q) * x) (q * y)
-over-same r s p q x y e f = rw (e, f)
+pub quotient-same : (r s p q x : ℕ) → r ≡ p + q → s ≡ q → r * x / s ≡ (p + q) * x / q
+quotient-same r s p q x e f = rw (e, f)
 
 -- a choice by an equation of two numbers
 pub cond-same : (x y s t : ℕ) → x ≡ y → s ≡ cond (eqb x y) s t
@@ -38,12 +38,12 @@ cond-same x y s t e = rw (eq-eqb x y e)
 pub cond-else : (x y s t : ℕ) → (x ≡ y → ⊥) → t ≡ cond (eqb x y) s t
 cond-else x y s t ne = rw (ne-eqb x y ne)
 
--- the same where each of the numbers was read
-pub cond-then : (a b x v r : ℕ) {s t : ℕ} → s ≡ a → x ≡ s → t ≡ b → r ≡ t → x ≡ v → r ≡ cond (eqb a v) b a
-cond-then a b x v r ea ex eb er h = (er ∙ eb) ∙ cond-same a v b a (sym ea ∙ sym ex ∙ h)
+-- the other end, where both ends were read
+pub beyond-then : (a b x w v r : ℕ) → x ≡ a → w ≡ x → r ≡ b → w ≡ v → r ≡ cond (eqb a v) b a
+beyond-then a b x w v r ex ew er h = er ∙ cond-same a v b a (sym ex ∙ sym ew ∙ h)
 
-pub cond-not : (a b x v : ℕ) {s : ℕ} → s ≡ a → x ≡ s → (x ≡ v → ⊥) → x ≡ cond (eqb a v) b a
-cond-not a b x v ea ex h = (ex ∙ ea) ∙ cond-else a v b a (λ e. h (ex ∙ ea ∙ e))
+pub beyond-not : (a b x w v : ℕ) → x ≡ a → w ≡ x → (w ≡ v → ⊥) → x ≡ cond (eqb a v) b a
+beyond-not a b x w v ex ew h = ex ∙ cond-else a v b a (λ e. h (ew ∙ ex ∙ e))
 
 -- THREE LISTS READ AS THE SEGMENTS MADE OF THEM
 pub lists-of : {a b lengths : List ℕ} → Level a b lengths → Lists (segmentsOf a b lengths) a b lengths

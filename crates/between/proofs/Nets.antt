@@ -1,40 +1,52 @@
--- The third tree of a net: over net's own lightest tree, shortest tree and least lengths the walk in code is net's walk (`walked-of-net`, `third-tree-of-net`), and a net that
--- nothing from 1 to 7 refuses is all that the code asks for (`net-walkable`). Relies on net's laws of least lengths; `third_tree`'s caller cites both.
-use mathlib.Core.Path.{_≡_, refl, ap, _∙_}
+-- The third tree of a net: over net's own lightest tree, shortest tree and least lengths the walk in code is net's walk (`walked-of-net`), and a net that
+-- nothing from 1 to 7 refuses is all that the code asks for (`net-walkable`). Relies on net's laws of least lengths and of what a walk is owed; `third_tree`'s caller cites both.
+use mathlib.Core.Path.{_≡_, refl, sym, ap, _∙_}
 use mathlib.Core.Bool.{Bool}
-use mathlib.Core.List.{List, _++_}
-use Prim.Native.Nat.{ℕ, _≤_}
+use mathlib.Core.List.{List}
+use Prim.Native.Nat.{ℕ, _≤_, _<_}
 use native.Mathlib.Omega.{arith}
 use native.Mathlib.Decide.{decLt}
-use lib.ListN.{length, drop, List·getD-eq-default}
+use lib.ListN.{length, List·getD-eq-default}
+use Rattle.net.specs.Words.{noSegment}
 use Rattle.net.specs.Net.{Net, segmentsOf, lengthAt, every}
 use Rattle.net.specs.Rules.{NetSound}
-use Rattle.net.specs.Trees.{noneYet, at, least, leastLengths}
+use Rattle.net.specs.Trees.{noneYet, at, entry, least, leastLengths, shortest}
 use Rattle.net.specs.Walk.{Notes}
 use Rattle.net.specs.Building.{lightestOf, shortestOf, leastLengthsOf, givenWith, walkWith, walkOf, betweenOf, laidOf}
 use Rattle.net.specs.declared.Head.{Head}
-use Rattle.net.proofs.Least.{Inside, length-least, least-most}
-use Rattle.net.proofs.Sound.{inside}
+use Rattle.net.proofs.Least.{Inside, length-least, least-most, leads-from}
+use Rattle.net.proofs.Shortest.{length-shortest, shortest-source}
+use Rattle.net.proofs.Notes.{Owed}
+use Rattle.net.proofs.Sound.{inside, below, few, heavy, g, is-owed}
 use Rattle.between.specs.Given.{Low, Level, Lists}
-use Rattle.between.specs.Asked.{Walkable, walkedOf, ThirdTree}
+use Rattle.between.specs.Asked.{Upward, Walkable, walkedOf, ThirdTree}
 use Rattle.between.proofs.Lists.{lists-of}
 
 -- the net of a head and of three lists side by side
 abbrev pub netFrom : Head → (a b lengths : List ℕ) → Net
 netFrom head a b lengths = record { head = head; segments = segmentsOf a b lengths }
 
-module _ (ok : ℕ → Bool) (head : Head) (a b lengths : List ℕ) where
-  pub walked-of-net : walkedOf (head .posts) (head .source) (head .p) (head .q) a b lengths (lightestOf ok (netFrom head a b lengths)) (shortestOf ok (netFrom head a b lengths)) (leastLengthsOf ok (netFrom head a b lengths))
-      ≡ walkOf ok (netFrom head a b lengths)
-  unfolding walkedOf walkOf walkWith givenWith
-  walked-of-net = refl
-
 module _ (m : ℕ) (head : Head) (a b lengths : List ℕ) (level : Level a b lengths) (fits : length (segmentsOf a b lengths) ≤ m) (sound : NetSound every m (netFrom head a b lengths)) where
   lists : Lists (segmentsOf a b lengths) a b lengths
   lists = lists-of level
 
+  abbrev N : Net
+  N = netFrom head a b lengths
+
   ends : Inside (segmentsOf a b lengths) every (head .posts)
   ends = inside every m (netFrom head a b lengths) fits sound
+
+  pub length-lengths : length (leastLengthsOf every (netFrom head a b lengths)) ≡ head .posts
+  unfolding leastLengthsOf leastLengths
+  length-lengths = length-least (segmentsOf a b lengths) every (lengthAt (segmentsOf a b lengths)) (head .posts) ends (head .source) (sound .head-sound .source-in)
+
+  length-short : length (shortestOf every (netFrom head a b lengths)) ≡ head .posts
+  unfolding shortestOf
+  length-short = length-shortest (segmentsOf a b lengths) every (head .posts) (head .source) ends (below every m N fits sound) (few every m N fits sound) (heavy every m N fits sound)
+
+  short-top : entry (shortestOf every (netFrom head a b lengths)) (head .source) ≡ noSegment
+  unfolding shortestOf
+  short-top = shortest-source (segmentsOf a b lengths) every (head .posts) (head .source) ends (below every m N fits sound) (few every m N fits sound) (heavy every m N fits sound)
 
   -- no least length is above "none yet"
   pub least-low : Low (leastLengthsOf every (netFrom head a b lengths))
@@ -48,18 +60,45 @@ module _ (m : ℕ) (head : Head) (a b lengths : List ℕ) (level : Level a b len
         omega arith
   ]
 
+  -- the way up the shortest tree
+  abbrev owes : Owed (g every m (netFrom head a b lengths) fits sound (λ _. head .p) (λ _. head .q)) every (head .source)
+  owes = is-owed every m (netFrom head a b lengths) fits sound (λ _. head .p) (λ _. head .q)
+
+  ways-up : (v : ℕ) → v < length (leastLengthsOf every (netFrom head a b lengths)) → (v ≡ head .source → ⊥) → at (leastLengthsOf every (netFrom head a b lengths)) v < noneYet
+      → Upward a b lengths (shortestOf every (netFrom head a b lengths)) (leastLengthsOf every (netFrom head a b lengths)) (owes .rank) v
+  unfolding shortestOf leastLengthsOf
+  ways-up v h ne k =
+      let z = owes .direct v (omega (arith, length-lengths)) ne k in
+      record {
+        hangs = λ e. omega (arith, e, z .leads .is-segment, owes .few);
+        is-post = let y = leads-from (owes .inside) (z .leads) (z .there) in omega (arith, length-lengths);
+        noted = omega (arith, z .adds);
+        nearer = z .nearer;
+      }
+
   -- NOTHING MORE IS ASKED
-  pub net-walkable : Walkable (head .posts) (head .source) (head .p) (head .q) a b lengths (leastLengthsOf every (netFrom head a b lengths))
+  pub net-walkable : Walkable (head .source) (head .p) (head .q) a b lengths (shortestOf every (netFrom head a b lengths)) (leastLengthsOf every (netFrom head a b lengths))
   net-walkable =
       record {
-        few-posts = sound .head-sound .posts-sound .few-posts;
-        source-in = sound .head-sound .source-in;
+        few-posts = omega (arith, length-lengths, sound .head-sound .posts-sound .few-posts);
+        posts-are = length-short ∙ sym length-lengths;
+        source-in = omega (arith, length-lengths, sound .head-sound .source-in);
         level = level;
         inside = record {
-          a-in = λ i h. rw (← lists .a-is i) ((sound .segments-sound i (omega (arith, lists .count)) refl) .ends-sound .a-in);
-          b-in = λ i h. rw (← lists .b-is i) ((sound .segments-sound i (omega (arith, lists .count)) refl) .ends-sound .b-in);
+          a-in = λ i h. let y = (sound .segments-sound i (omega (arith, lists .count)) refl) .ends-sound .a-in in omega (arith, lists .a-is i, length-lengths);
+          b-in = λ i h. let y = (sound .segments-sound i (omega (arith, lists .count)) refl) .ends-sound .b-in in omega (arith, lists .b-is i, length-lengths);
         };
         p-most = sound .head-sound .small-p;
         q-most = sound .head-sound .small-q;
+        q-some = sound .head-sound .some-q;
         D-low = least-low;
+        top = short-top;
+        rank = owes .rank;
+        rank-most = λ v h. let y = owes .rank-most v (omega (arith, length-lengths)) in omega (arith, length-lengths);
+        upward = ways-up;
       }
+
+  pub walked-of-net : walkedOf (head .source) (head .p) (head .q) a b lengths (lightestOf every (netFrom head a b lengths)) (shortestOf every (netFrom head a b lengths)) (leastLengthsOf every (netFrom head a b lengths))
+      ≡ walkOf every (netFrom head a b lengths)
+  unfolding walkedOf walkOf walkWith givenWith
+  walked-of-net = rw length-lengths

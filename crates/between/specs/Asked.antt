@@ -1,46 +1,100 @@
 -- What the walk's code asks of its arguments, and what it is to make: the third tree's notes at the end.
--- Relies on Given and Children; all that is asked follows from checks 1 to 7 and from what the shortest tree's code
--- promises.
+-- Relies on Given, Laying and Children; all that is asked follows from checks 1 to 7 and from what the shortest tree's
+-- code promises.
 use mathlib.Core.Path.{_≡_}
-use mathlib.Core.List.{List, _++_}
+use mathlib.Core.Bool.{true}
+use mathlib.Core.List.{List}
 use Prim.Native.Nat.{ℕ, _≤_, _<_}
-use lib.ListN.{length, drop}
-use Rattle.net.specs.Net.{mostRatio, mostPosts}
-use Rattle.net.specs.Walk.{Notes, atStart, walk}
-use Rattle.between.specs.Given.{notesOf, Low, Level, EndsIn, Small, givenOf}
-use Rattle.between.specs.Children.{Indexed}
+use lib.ListN.{length, getD}
+use Rattle.net.specs.Words.{noSegment}
+use Rattle.net.specs.Net.{segmentsOf, other, mostRatio, mostPosts}
+use Rattle.net.specs.Trees.{noneYet, at, entry, parent}
+use Rattle.net.specs.Walk.{Notes, Given, atStart, child, walk}
+use Rattle.between.specs.Given.{notesOf, Shows, Low, Level, EndsIn, endBeyond, limitBy, givenOf}
+use Rattle.between.specs.Laying.{Layable, Entering}
+use Rattle.between.specs.Children.{Linked}
 
--- what the walk of v asks: the links are made, nothing is too large, and the laid paths can be counted in 32 bits
-pub record Walking (left v posts p q : ℕ) (a b lengths walked shortest dist first after d entries : List ℕ) : Type 0
-  where
-    pub is-post : v < posts
-    pub few-posts : posts ≤ mostPosts
-    pub level : Level a b lengths
-    pub index : Indexed a b walked posts 0 first after
-    pub small : Small p q dist d
-    pub countable :
-        length ((walk (givenOf posts p q a b lengths walked shortest dist) left v (notesOf d entries)) .laid)
-        < 4294967296
+-- THE WALK OF v. g is shown by these lists: all that the walk looks at
+pub record Shown (g : Given) (walked first after limits lengths shortest up dist : List ℕ) : Type 0 where
+  pub walked-is : g .walked ≡ walked
+  pub count : length (g .segments) ≡ length lengths
+  pub links : Linked g (length first) (λ _. 0) first after
+  pub few-links : length first ≤ mostPosts
+  pub room : g .posts ≤ length first
+  pub inside : (v i : ℕ) → i < length (g .segments) → child g v i ≡ true → other (g .segments) i v < g .posts
+  pub enters : (v : ℕ) → v < g .posts → Entering g v limits lengths shortest up dist
 
--- THE THIRD TREE. What is asked of a net before its third tree is made; nothing is asked of the tree walked and of the
--- shortest tree
-pub record Walkable (posts source p q : ℕ) (a b lengths dist : List ℕ) : Type 0 where
-  pub few-posts : posts ≤ mostPosts
-  pub source-in : source < posts
+-- what the walk of v asks of g and of the notes: direct paths can be laid, and the laid paths counted in 32 bits
+pub record Turned (g : Given) (left v : ℕ) (walked first after limits lengths shortest up dist d entries : List ℕ)
+    : Type 0 where
+  pub shown : Shown g walked first after limits lengths shortest up dist
+  pub is-post : v < g .posts
+  pub layable : Layable shortest up dist d
+  pub countable : length ((walk g left v (notesOf d entries)) .laid) < 4294967296
+
+-- the lists show something that can be walked
+pub record Walking (left v : ℕ) (walked first after limits lengths shortest up dist d entries : List ℕ) : Type 0 where
+  pub given : Given
+  pub turned : Turned given left v walked first after limits lengths shortest up dist d entries
+
+-- what the walk of v leaves, whatever the lists show: the notes, and the count of laid paths
+abbrev pub Walked : (left v : ℕ) (walked first after limits lengths shortest up dist d entries : List ℕ) → ℕ → List ℕ
+    → List ℕ → Type 0
+Walked left v walked first after limits lengths shortest up dist d entries laid d′ entries′ = (g : Given)
+    → Turned g left v walked first after limits lengths shortest up dist d entries
+    → Shows (walk g left v (notesOf d entries)) d′ entries′ laid
+
+-- THE THIRD TREE. The way up the shortest tree from v, which has a least length and isn't the source
+pub record Upward (a b lengths shortest dist : List ℕ) (rank : ℕ → ℕ) (v : ℕ) : Type 0 where
+  pub hangs : entry shortest v ≡ noSegment → ⊥
+  pub is-post : parent (segmentsOf a b lengths) shortest v < length dist
+  pub noted : at dist (parent (segmentsOf a b lengths) shortest v) < noneYet
+  pub nearer : rank (parent (segmentsOf a b lengths) shortest v) < rank v
+
+-- what is asked of a net before its third tree is made; nothing is asked of the tree walked
+pub record Walkable (source p q : ℕ) (a b lengths shortest dist : List ℕ) : Type 0 where
+  pub few-posts : length dist ≤ mostPosts
+  pub posts-are : length shortest ≡ length dist
+  pub source-in : source < length dist
   pub level : Level a b lengths
-  pub inside : EndsIn posts a b
+  pub inside : EndsIn (length dist) a b
   pub p-most : p ≤ mostRatio
   pub q-most : q ≤ mostRatio
+  pub q-some : 0 < q
   pub D-low : Low dist
+  pub top : entry shortest source ≡ noSegment
+  pub rank : ℕ → ℕ
+  pub rank-most : (v : ℕ) → v < length dist → rank v < length dist
+  pub upward : (v : ℕ) → v < length dist → (v ≡ source → ⊥) → at dist v < noneYet
+      → Upward a b lengths shortest dist rank v
+
+-- the limits and the parents stand in two lists, one entry for each post at their fronts
+pub record Tables (p q : ℕ) (a b shortest dist limits up : List ℕ) : Type 0 where
+  pub limits-are : (v : ℕ) → v < length dist → at limits v ≡ limitBy p q (at dist v)
+  pub up-are : (v : ℕ) → v < length shortest → getD up v 0 ≡ endBeyond a b (entry shortest v) v
+  pub room : length shortest ≤ length up
+
+-- so they do for some ratio
+pub record Tabled (source : ℕ) (a b lengths shortest dist limits up : List ℕ) : Type 0 where
+  pub p : ℕ
+  pub q : ℕ
+  pub walkable : Walkable source p q a b lengths shortest dist
+  pub tables : Tables p q a b shortest dist limits up
 
 -- the walk from the source, from the start
-unfoldable pub walkedOf : (posts source p q : ℕ) (a b lengths walked shortest dist : List ℕ) → Notes
-walkedOf posts source p q a b lengths walked shortest dist =
-    walk (givenOf posts p q a b lengths walked shortest dist) posts source (atStart posts source)
+unfoldable pub walkedOf : (source p q : ℕ) (a b lengths walked shortest dist : List ℕ) → Notes
+walkedOf source p q a b lengths walked shortest dist =
+    walk (givenOf (length dist) p q a b lengths walked shortest dist) (length dist) source
+    (atStart (length dist) source)
 
--- what the third tree's code leaves: the number of laid paths, and the lent list, which held `before`; "Entries beyond
--- the post count stay as they were."
-pub record ThirdTree (posts source p q : ℕ) (a b lengths walked shortest dist before : List ℕ) (laid : ℕ)
-    (after : List ℕ) : Type 0 where
-  pub count : laid ≡ length ((walkedOf posts source p q a b lengths walked shortest dist) .laid)
-  pub tree : after ≡ (walkedOf posts source p q a b lengths walked shortest dist) .entries ++ drop posts before
+-- what the third tree's code leaves: the number of laid paths, and the lent list
+pub record ThirdTree (source p q : ℕ) (a b lengths walked shortest dist : List ℕ) (laid : ℕ) (after : List ℕ) : Type 0
+  where
+    pub count : laid ≡ length ((walkedOf source p q a b lengths walked shortest dist) .laid)
+    pub tree : after ≡ (walkedOf source p q a b lengths walked shortest dist) .entries
+
+-- the same by tables of some ratio
+abbrev pub ThirdTabled : (source : ℕ) (a b lengths walked shortest dist limits up : List ℕ) → ℕ → List ℕ → Type 0
+ThirdTabled source a b lengths walked shortest dist limits up laid after = (p q : ℕ)
+    → Walkable source p q a b lengths shortest dist → Tables p q a b shortest dist limits up
+    → ThirdTree source p q a b lengths walked shortest dist laid after

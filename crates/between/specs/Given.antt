@@ -1,12 +1,15 @@
 -- How the code holds what `net` speaks of: the segments as three lists side by side, the notes as two lists with the
--- laid paths counted beside them, and what the walk is given as plain lists and numbers. Relies on net's specs/Net and
--- specs/Walk; every contract of the crate cites it.
+-- laid paths counted beside them, the parents in the shortest tree and the limits as lists. Relies on net's specs/Net
+-- and specs/Walk; every contract of the crate cites it.
 use mathlib.Core.Path.{_≡_}
+use mathlib.Core.Bool.{cond}
 use mathlib.Core.List.{List, []}
-use Prim.Native.Nat.{ℕ, _≤_, _<_}
+use Prim.Native.Nat.{ℕ, _+_, _*_, _/_, _≤_, _<_}
+use lib.Dec.{eqb}
 use lib.ListN.{length, getD}
-use Rattle.net.specs.Net.{segmentsOf, segmentAt, lengthAt, mostRatio}
-use Rattle.net.specs.Trees.{noneYet, at}
+use Rattle.net.specs.Words.{tab}
+use Rattle.net.specs.Net.{segmentsOf, segmentAt, lengthAt}
+use Rattle.net.specs.Trees.{noneYet, at, entry}
 use Rattle.net.specs.Walk.{Notes, Given}
 use Rattle.net.specs.declared.Segment.{Segment}
 
@@ -41,27 +44,22 @@ pub record Lists (segs : List Segment) (a b lengths : List ℕ) : Type 0 where
   pub b-is : (i : ℕ) → (segmentAt segs i) .b ≡ getD b i 0
   pub lengths-is : (i : ℕ) → lengthAt segs i ≡ getD lengths i 0
 
--- WHAT THE WALK IS GIVEN. g has these segments, this shortest tree and these least lengths: all that laying looks at
-pub record Direct (g : Given) (a b lengths shortest dist : List ℕ) : Type 0 where
-  pub lists : Lists (g .segments) a b lengths
-  pub shortest-is : g .shortest ≡ shortest
-  pub D-is : g .D ≡ dist
+-- TABLES. The other end of segment i, which has an end at v
+abbrev pub endBeyond : (a b : List ℕ) → ℕ → ℕ → ℕ
+endBeyond a b i v = cond (eqb (getD a i 0) v) (getD b i 0) (getD a i 0)
 
--- and this number of posts and this ratio at v: all that entering v looks at
-pub record Entering (g : Given) (v posts p q : ℕ) (a b lengths shortest dist : List ℕ) : Type 0 where
-  pub direct : Direct g a b lengths shortest dist
-  pub posts-is : g .posts ≡ posts
-  pub p-is : g .p v ≡ p
-  pub q-is : g .q v ≡ q
+-- the parents of all posts in a tree
+abbrev pub parentsBy : (a b tree : List ℕ) → List ℕ
+parentsBy a b tree = tab (length tree) (λ v. endBeyond a b (entry tree v) v)
 
--- the numbers that entering multiplies are small enough for 64 bits
-pub record Small (p q : ℕ) (dist d : List ℕ) : Type 0 where
-  pub p-most : p ≤ mostRatio
-  pub q-most : q ≤ mostRatio
-  pub D-low : Low dist
-  pub d-low : Low d
+-- the greatest note within the ratio p/q of a least length; those of all posts
+abbrev pub limitBy : (p q least : ℕ) → ℕ
+limitBy p q least = (p + q) * least / q
 
--- everything the walk looks at, one ratio for all posts
+abbrev pub limitsBy : (p q : ℕ) → List ℕ → List ℕ
+limitsBy p q dist = tab (length dist) (λ v. limitBy p q (at dist v))
+
+-- WHAT THE WALK IS GIVEN, as plain lists and numbers, one ratio for all posts
 abbrev pub givenOf : (posts p q : ℕ) (a b lengths walked shortest dist : List ℕ) → Given
 givenOf posts p q a b lengths walked shortest dist =
     record {

@@ -5,16 +5,18 @@ use net::NONE_YET;
 use net::POST_PLACES;
 ghost use mathlib.Core.Path.{_≡_};
 ghost use mathlib.Core.Bool.{cond};
-ghost use Prim.Native.Nat.{ℕ, _+_, _*_, _≤_, _<_};
+ghost use Prim.Native.Nat.{ℕ, _+_, _*_, _/_, _≤_, _<_};
 ghost use lib.Dec.{eqb, ltb};
-ghost use lib.ListN.{length, getD, set, replicate};
-ghost use Rattle.net.specs.Words.{tab, noSegment};
+ghost use mathlib.Core.List.{_++_};
+ghost use lib.ListN.{length, getD, set, replicate, drop};
+ghost use Rattle.net.specs.Words.{noSegment};
 ghost use Rattle.net.specs.Net.{lengthAt, mostRatio};
 ghost use Rattle.net.specs.Trees.{noneYet, at, entry};
-ghost use Rattle.net.specs.Walk.{Given, try, lay, enter, walk};
-ghost use Rattle.between.specs.Given.{notesOf, Shows, EndsIn, Direct, Entering, Small, givenOf};
-ghost use Rattle.between.specs.Asked.{Walking, Walkable, walkedOf, ThirdTree};
+ghost use Rattle.net.specs.Walk.{Given, try, lay, enter};
+ghost use Rattle.between.specs.Given.{notesOf, Shows, EndsIn, Low, endBeyond, parentsBy, limitBy, limitsBy};
+ghost use Rattle.between.specs.Laying.{depth, Late, Layable, Direct, Entering};
 ghost use Rattle.between.specs.Children.{Indexed, adopted, adoptedBoth};
+ghost use Rattle.between.specs.Asked.{Walking, Walked, Walkable, Tabled, ThirdTabled, ThirdTree};
 
 // The entry of a post that hangs by no segment, and the link where there is no further child.
 const NONE: u16 = net::NO_SEGMENT;
@@ -25,13 +27,6 @@ fn wide(x: u16) -> usize
     ensures { λ r. ⌜ (r ≡ x) × (r < 65536) ⌝ }
 {
     x as usize
-}
-
-// A length or a number of the ratio, as wide as a note.
-fn sixteenths(x: u32) -> u64
-    ensures { λ r. ⌜ (r ≡ x) × (r < 4294967296) ⌝ }
-{
-    x as u64
 }
 
 // An end of segment i.
@@ -46,7 +41,7 @@ fn length_at(lengths: &[u32], i: usize) -> u64
     ensures { λ r. ⌜ r ≡ getD (now (lengths .entry)) i 0 ⌝ }
 {
     if i < lengths.len() {
-        sixteenths(lengths[i])
+        net::plain::wide(lengths[i])
     } else {
         0
     }
@@ -85,12 +80,11 @@ fn put_entry(tree: &mut [u16], v: usize, x: u16)
 }
 
 // The other end of segment i, which has an end at v.
-fn other_end(a: &[u16], b: &[u16], i: usize, v: usize) -> usize
-    ensures { λ r. ⌜ r ≡ cond (eqb (getD (now (a .entry)) i 0) v) (getD (now (b .entry)) i 0)
-        (getD (now (a .entry)) i 0) ⌝ }
+fn end_beyond(a: &[u16], b: &[u16], i: usize, v: usize) -> u16
+    ensures { λ r. ⌜ r ≡ endBeyond (now (a .entry)) (now (b .entry)) i v ⌝ }
 {
-    let x = wide(end_at(a, i));
-    if x == v { wide(end_at(b, i)) } else { x }
+    let x = end_at(a, i);
+    if wide(x) == v { end_at(b, i) } else { x }
 }
 
 // TRY, LAY, ENTER
@@ -114,65 +108,51 @@ fn try_from(u: usize, i: u16, v: usize, long: u64, d: &mut [u64], entries: &mut 
     }
 }
 
-// Lays the direct path of v. The recursion goes up the shortest tree and falls in `depth`, which no post's depth there
-// exceeds.
+// Lays the direct path of v: the recursion goes up the shortest tree, whose parents are `up`, and falls in v's depth
+// there.
 fn lay_path(
-    depth: usize,
     v: usize,
-    a: &[u16],
-    b: &[u16],
     lengths: &[u32],
     shortest: &[u16],
+    up: &[u16; POST_PLACES],
     dist: &[u64],
     d: &mut [u64],
     entries: &mut [u16],
 )
-    ensures { λ _. ⌜ ((g : Given) → Direct g (now (a .entry)) (now (b .entry)) (now (lengths .entry))
-        (now (shortest .entry)) (now (dist .entry)) → notesOf (now (d .exit)) (now (entries .exit))
-        ≡ lay g depth v (notesOf (now (d .entry)) (now (entries .entry)))) ⌝ }
+    requires { ⌜ Layable (now shortest) (now up) (now dist) (now d) ⌝ }
+    ensures { λ _. ⌜ ((g : Given) (k : ℕ) → Direct g (now (lengths .entry)) (now (shortest .entry)) (now (up .entry))
+        (now (dist .entry)) → (Late (now (dist .entry)) (now (d .entry)) v
+        → depth (now (shortest .entry)) (now (up .entry)) (length (now (up .entry))) v < k)
+        → notesOf (now (d .exit)) (now (entries .exit))
+        ≡ lay g k v (notesOf (now (d .entry)) (now (entries .entry)))) ⌝ }
 {
-    if depth == 0 {
-        return;
-    }
     if note_at(dist, v) < note_at(d, v) {
         let i = entry_at(shortest, v);
-        let k = wide(i);
-        let u = other_end(a, b, k, v);
-        lay_path(depth - 1, u, a, b, lengths, shortest, dist, d, entries);
-        try_from(u, i, v, length_at(lengths, k), d, entries);
+        let u = wide(end_at(up, v));
+        lay_path(u, lengths, shortest, up, dist, d, entries);
+        try_from(u, i, v, length_at(lengths, wide(i)), d, entries);
     }
 }
 
-// Whether q × note is greater than (p + q) × least.
-fn is_over(p: u32, q: u32, note: u64, least: u64) -> bool
-    requires { ⌜ (p ≤ mostRatio) × (q ≤ mostRatio) × (note ≤ noneYet) × (least ≤ noneYet) ⌝ }
-    ensures { λ r. ⌜ r ≡ ltb ((p + q) * least) (q * note) ⌝ }
-{
-    sixteenths(p + q) * least < sixteenths(q) * note
-}
-
-// On entering v: lays its direct path where its note is over the limit, and answers how many paths that counts.
+// On entering v: lays its direct path where its note is over its limit, and answers how many paths that counts.
 fn enter_post(
     v: usize,
-    posts: usize,
-    p: u32,
-    q: u32,
-    a: &[u16],
-    b: &[u16],
+    limits: &[u64; POST_PLACES],
     lengths: &[u32],
     shortest: &[u16],
+    up: &[u16; POST_PLACES],
     dist: &[u64],
     d: &mut [u64],
     entries: &mut [u16],
 ) -> u32
-    requires { ⌜ Small p q (now dist) (now d) ⌝ }
-    ensures { λ r. ⌜ ((g : Given) → Entering g v posts p q (now (a .entry)) (now (b .entry)) (now (lengths .entry))
-        (now (shortest .entry)) (now (dist .entry))
+    requires { ⌜ Layable (now shortest) (now up) (now dist) (now d) ⌝ }
+    ensures { λ r. ⌜ ((g : Given) → Entering g v (now (limits .entry)) (now (lengths .entry)) (now (shortest .entry))
+        (now (up .entry)) (now (dist .entry))
         → Shows (enter g v (notesOf (now (d .entry)) (now (entries .entry))))
         (now (d .exit)) (now (entries .exit)) r) ⌝ }
 {
-    if is_over(p, q, note_at(d, v), note_at(dist, v)) {
-        lay_path(posts, v, a, b, lengths, shortest, dist, d, entries);
+    if note_at(limits, v) < note_at(d, v) {
+        lay_path(v, lengths, shortest, up, dist, d, entries);
         return 1;
     }
     0
@@ -213,13 +193,14 @@ fn adopt_both(i: usize, x: u16, y: u16, walked: &[u16], first: &mut [u16], after
     }
 }
 
-// Links the children of every post in the tree `walked`: one look at each segment, from the highest number down.
+// Links the children of every post in the tree `walked`, into two lists without a link: one look at each segment, from
+// the highest number down.
 fn link_children(a: &[u16], b: &[u16], walked: &[u16], first: &mut [u16], after: &mut [u16])
-    requires { ⌜ EndsIn (length (now first)) (now a) (now b) × (length (now first) ≤ length (now after)) ⌝ }
+    requires { ⌜ EndsIn (length (now first)) (now a) (now b) × (length (now first) ≤ length (now after))
+        × (now first ≡ replicate (length (now first)) noSegment) ⌝ }
     ensures { λ _. ⌜ Indexed (now (a .entry)) (now (b .entry)) (now (walked .entry)) (length (now (first .entry))) 0
         (now (first .exit)) (now (after .exit)) ⌝ }
 {
-    clear(first);
     let mut i = a.len();
     while i > 0 {
         i -= 1;
@@ -232,30 +213,27 @@ fn link_children(a: &[u16], b: &[u16], walked: &[u16], first: &mut [u16], after:
 fn walk_from(
     left: usize,
     v: usize,
-    posts: usize,
-    p: u32,
-    q: u32,
-    a: &[u16],
-    b: &[u16],
-    lengths: &[u32],
     walked: &[u16],
+    first: &[u16; POST_PLACES],
+    after: &[u16; POST_PLACES],
+    limits: &[u64; POST_PLACES],
+    lengths: &[u32],
     shortest: &[u16],
+    up: &[u16; POST_PLACES],
     dist: &[u64],
-    first: &[u16],
-    after: &[u16],
     d: &mut [u64],
     entries: &mut [u16],
 ) -> u32
-    requires { ⌜ Walking left v posts p q (now a) (now b) (now lengths) (now walked) (now shortest) (now dist)
-        (now first) (now after) (now d) (now entries) ⌝ }
-    ensures { λ r. ⌜ Shows (walk (givenOf posts p q (now (a .entry)) (now (b .entry)) (now (lengths .entry))
-        (now (walked .entry)) (now (shortest .entry)) (now (dist .entry))) left v
-        (notesOf (now (d .entry)) (now (entries .entry)))) (now (d .exit)) (now (entries .exit)) r ⌝ }
+    requires { ⌜ Walking left v (now walked) (now first) (now after) (now limits) (now lengths) (now shortest) (now up)
+        (now dist) (now d) (now entries) ⌝ }
+    ensures { λ r. ⌜ Walked left v (now (walked .entry)) (now (first .entry)) (now (after .entry)) (now (limits .entry))
+        (now (lengths .entry)) (now (shortest .entry)) (now (up .entry)) (now (dist .entry))
+        (now (d .entry)) (now (entries .entry)) r (now (d .exit)) (now (entries .exit)) ⌝ }
 {
     if left == 0 {
         return 0;
     }
-    let mut laid = enter_post(v, posts, p, q, a, b, lengths, shortest, dist, d, entries);
+    let mut laid = enter_post(v, limits, lengths, shortest, up, dist, d, entries);
     let mut c = entry_at(first, v);
     while c != NONE {
         let w = wide(c);
@@ -265,17 +243,14 @@ fn walk_from(
         laid += walk_from(
             left - 1,
             w,
-            posts,
-            p,
-            q,
-            a,
-            b,
-            lengths,
             walked,
-            shortest,
-            dist,
             first,
             after,
+            limits,
+            lengths,
+            shortest,
+            up,
+            dist,
             d,
             entries,
         );
@@ -285,73 +260,86 @@ fn walk_from(
     laid
 }
 
-// The start: 0 at the source, "none yet" elsewhere.
-fn start_note(v: usize, source: usize) -> u64
-    ensures { λ r. ⌜ r ≡ cond (eqb v source) 0 noneYet ⌝ }
+// THE TABLES OF THE WALK. The parents of all posts in the shortest tree, into the front of a list.
+fn put_parents(a: &[u16], b: &[u16], shortest: &[u16], up: &mut [u16])
+    requires { ⌜ length (now shortest) ≤ length (now up) ⌝ }
+    ensures { λ _. ⌜ now (up .exit) ≡ parentsBy (now (a .entry)) (now (b .entry)) (now (shortest .entry))
+        ++ drop (length (now (shortest .entry))) (now (up .entry)) ⌝ }
 {
-    if v == source { 0 } else { NONE_YET }
-}
-
-// The notes of the start.
-fn start_notes(source: usize, d: &mut [u64])
-    ensures { λ _. ⌜ now (d .exit) ≡ tab (length (now (d .entry))) (λ v. cond (eqb v source) 0 noneYet) ⌝ }
-{
-    let mut i = 0;
-    while i < d.len() {
-        d[i] = start_note(i, source);
-        i += 1;
+    let mut v = 0;
+    while v < shortest.len() {
+        up[v] = end_beyond(a, b, wide(shortest[v]), v);
+        v += 1;
     }
 }
 
-// The whole walk, over lists of one entry for each post: the children are linked, the notes are set to the start, and
-// the source is walked.
+// The greatest note that is within the ratio: (p + q) × least, divided by q.
+fn limit_of(p: u32, q: u32, least: u64) -> u64
+    requires { ⌜ (p ≤ mostRatio) × (q ≤ mostRatio) × (0 < q) × (least ≤ noneYet) ⌝ }
+    ensures { λ r. ⌜ r ≡ limitBy p q least ⌝ }
+{
+    net::plain::wide(p + q) * least / net::plain::wide(q)
+}
+
+// The limits of all posts, into the front of a list.
+fn put_limits(p: u32, q: u32, dist: &[u64], limits: &mut [u64])
+    requires { ⌜ (p ≤ mostRatio) × (q ≤ mostRatio) × (0 < q) × Low (now dist) ⌝ }
+    requires { ⌜ length (now dist) ≤ length (now limits) ⌝ }
+    ensures { λ _. ⌜ now (limits .exit)
+        ≡ limitsBy p q (now (dist .entry)) ++ drop (length (now (dist .entry))) (now (limits .entry)) ⌝ }
+{
+    let mut v = 0;
+    while v < dist.len() {
+        limits[v] = limit_of(p, q, dist[v]);
+        v += 1;
+    }
+}
+
+// The whole walk, over the parents and the limits: the children are linked, the notes are set to the start, and the
+// source is walked.
 fn walk_net(
-    posts: usize,
     source: usize,
-    p: u32,
-    q: u32,
     a: &[u16],
     b: &[u16],
     lengths: &[u32],
     walked: &[u16],
     shortest: &[u16],
     dist: &[u64],
-    first: &mut [u16],
-    after: &mut [u16],
-    d: &mut [u64],
+    limits: &[u64; POST_PLACES],
+    up: &[u16; POST_PLACES],
     entries: &mut [u16],
 ) -> u32
-    requires { ⌜ Walkable posts source p q (now a) (now b) (now lengths) (now dist) × (length (now first) ≡ posts)
-        × (length (now after) ≡ posts) × (length (now d) ≡ posts) × (length (now entries) ≡ posts) ⌝ }
-    ensures { λ r. ⌜ Shows (walkedOf posts source p q (now (a .entry)) (now (b .entry)) (now (lengths .entry))
-        (now (walked .entry)) (now (shortest .entry)) (now (dist .entry))) (now (d .exit)) (now (entries .exit)) r ⌝ }
+    requires { ⌜ Tabled source (now a) (now b) (now lengths) (now shortest) (now dist) (now limits) (now up)
+        × (length (now entries) ≡ length (now dist)) ⌝ }
+    ensures { λ r. ⌜ ThirdTabled source (now (a .entry)) (now (b .entry)) (now (lengths .entry)) (now (walked .entry))
+        (now (shortest .entry)) (now (dist .entry)) (now (limits .entry)) (now (up .entry)) r (now (entries .exit)) ⌝ }
 {
-    link_children(a, b, walked, first, after);
-    start_notes(source, d);
+    let posts = dist.len();
+    let mut first = [NONE; POST_PLACES];
+    let mut after = [NONE; POST_PLACES];
+    let mut d = [NONE_YET; POST_PLACES];
+    link_children(a, b, walked, &mut first, &mut after);
+    d[source] = 0;
     clear(entries);
     walk_from(
         posts,
         source,
-        posts,
-        p,
-        q,
-        a,
-        b,
-        lengths,
         walked,
+        &first,
+        &after,
+        limits,
+        lengths,
         shortest,
+        up,
         dist,
-        first,
-        after,
-        d,
+        &mut d[..posts],
         entries,
     )
 }
 
-// The third tree of a net, by a walk over the tree `walked` from the source: puts its entries into the lent list, and
-// answers how many direct paths were laid. Entries beyond the post count stay as they were.
+// The third tree of a net, by a walk over the tree `walked` from the source: puts its entries into the lent list, one
+// for each post, and answers how many direct paths were laid.
 pub fn third_tree(
-    posts: usize,
     source: usize,
     p: u32,
     q: u32,
@@ -363,28 +351,25 @@ pub fn third_tree(
     dist: &[u64],
     entries: &mut [u16],
 ) -> u32
-    requires { ⌜ Walkable posts source p q (now a) (now b) (now lengths) (now dist) × (posts ≤ length (now entries)) ⌝ }
-    ensures walked { λ r. ⌜ ThirdTree posts source p q (now (a .entry)) (now (b .entry)) (now (lengths .entry))
-        (now (walked .entry)) (now (shortest .entry)) (now (dist .entry)) (now (entries .entry)) r (now (entries .exit))
-        ⌝ }
+    requires { ⌜ Walkable source p q (now a) (now b) (now lengths) (now shortest) (now dist)
+        × (length (now entries) ≡ length (now dist)) ⌝ }
+    ensures walked { λ r. ⌜ ThirdTree source p q (now (a .entry)) (now (b .entry)) (now (lengths .entry))
+        (now (walked .entry)) (now (shortest .entry)) (now (dist .entry)) r (now (entries .exit)) ⌝ }
 {
-    let mut first = [0u16; POST_PLACES];
-    let mut after = [0u16; POST_PLACES];
-    let mut d = [0u64; POST_PLACES];
+    let mut up = [0u16; POST_PLACES];
+    let mut limits = [0u64; POST_PLACES];
+    put_parents(a, b, shortest, &mut up);
+    put_limits(p, q, dist, &mut limits);
     walk_net(
-        posts,
         source,
-        p,
-        q,
         a,
         b,
         lengths,
         walked,
         shortest,
         dist,
-        &mut first[..posts],
-        &mut after[..posts],
-        &mut d[..posts],
-        &mut entries[..posts],
+        &limits,
+        &up,
+        entries,
     )
 }

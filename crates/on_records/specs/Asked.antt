@@ -4,6 +4,7 @@
 use mathlib.Core.Path.{_≡_}
 use mathlib.Core.List.{List}
 use Prim.Native.Nat.{ℕ, _≤_}
+use denote.Ref.{RefT, now}
 use lib.ListN.{length, take}
 use Rattle.net.specs.Net.{Net, every, mostSegments}
 use Rattle.net.specs.Refusals.{Lent}
@@ -34,6 +35,9 @@ recordRead bytes = netRead bytes mostSegments 0
 -- the net of a head and of the first m segments of three lists
 abbrev pub frontOf : Head → ℕ → List ℕ → List ℕ → List ℕ → Net
 frontOf h m a b l = netAt h (take m a) (take m b) (take m l)
+
+abbrev pub frontBy : Head → ℕ → RefT (List ℕ) → RefT (List ℕ) → RefT (List ℕ) → Net
+frontBy h m a b l = frontOf h m (now a) (now b) (now l)
 
 -- three lists have so many places, and nothing from 1 to 7 refuses the net in them
 pub record Front (h : Head) (m : ℕ) (a b l : List ℕ) : Type 0 where

@@ -21,7 +21,7 @@ ghost use Rattle.net.specs.Building.{marginOf};
 ghost use Rattle.margins.specs.Answers.{marginAnswerOf};
 ghost use Rattle.writing.specs.Answers.{Writes};
 ghost use Rattle.reading.specs.Answers.{checkRead};
-ghost use Rattle.on_records.specs.Asked.{recordRead, Front, frontOf, plannedAs};
+ghost use Rattle.on_records.specs.Asked.{recordRead, Front, frontBy, plannedAs};
 ghost use Rattle.on_records.specs.Asked.{Plans, PlansNet, Rewrites, marginRead};
 
 // The net's head and the number of its segments, "length and radius of each tree and the count of laid paths", or a
@@ -72,7 +72,7 @@ fn plan_front(
     between: &mut [u16],
 ) -> PlanAnswer
     requires { ⌜ Front head count (now a) (now b) (now lengths) ⌝ }
-    ensures { λ r. ⌜ PlansNet head count (frontOf head count (now (a .entry)) (now (b .entry)) (now (lengths .entry)))
+    ensures { λ r. ⌜ PlansNet head count (frontBy head count (a .entry) (b .entry) (lengths .entry))
         (now (lightest .entry)) (now (shortest .entry)) (now (between .entry)) r
         (now (lightest .exit)) (now (shortest .exit)) (now (between .exit)) ⌝ }
 {
@@ -122,7 +122,7 @@ fn write_front(
     room: &mut [u8],
 ) -> WriteAnswer
     requires { ⌜ Front head count (now a) (now b) (now lengths) ⌝ }
-    ensures { λ r. ⌜ Writes (frontOf head count (now (a .entry)) (now (b .entry)) (now (lengths .entry))) count
+    ensures { λ r. ⌜ Writes (frontBy head count (a .entry) (b .entry) (lengths .entry)) count
         (now (room .entry)) r (now (room .exit)) ⌝ }
 {
     let m = count as usize;
@@ -156,7 +156,7 @@ fn margin_front(
 ) -> MarginAnswer
     requires { ⌜ Front head count (now a) (now b) (now lengths) ⌝ }
     ensures { λ r. ⌜ r ≡ marginAnswerOf (marginOf every
-        (frontOf head count (now (a .entry)) (now (b .entry)) (now (lengths .entry))) count tree post) ⌝ }
+        (frontBy head count (a .entry) (b .entry) (lengths .entry)) count tree post) ⌝ }
 {
     let m = count as usize;
     margins::margin_sound(head, &a[..m], &b[..m], &lengths[..m], tree, post)

@@ -3,6 +3,7 @@
 use mathlib.Core.Path.{_≡_}
 use mathlib.Core.List.{List}
 use Prim.Native.Nat.{ℕ}
+use denote.Ref.{RefT, now}
 use lib.ListN.{length}
 use Rattle.net.specs.declared.Segment.{Segment}
 use Rattle.net.specs.declared.Head.{Head}
@@ -23,3 +24,6 @@ pub record Taken (says : Checked) (head : Head) (m : ℕ) (a b lengths : List �
 -- and what is said of a net is said of the net of every list that does
 abbrev pub OfTaken : Checked → Head → ℕ → List ℕ → List ℕ → List ℕ → (Net → Type 0) → Type 0
 OfTaken says head m a b lengths P = (l : List Segment) → Stands says head m a b lengths l → P (netOn head l)
+
+abbrev pub OfTakenBy : Checked → Head → ℕ → RefT (List ℕ) → RefT (List ℕ) → RefT (List ℕ) → (Net → Type 0) → Type 0
+OfTakenBy says head m a b lengths P = OfTaken says head m (now a) (now b) (now lengths) P

@@ -26,7 +26,7 @@ ghost use Rattle.building.specs.Answers.{Leaves};
 ghost use Rattle.margins.specs.Answers.{marginAnswerOf};
 ghost use Rattle.writing.specs.Answers.{Writes};
 ghost use Rattle.on_segments.specs.Reading.{countOf, Reads};
-ghost use Rattle.on_segments.specs.Taking.{Taken, OfTaken};
+ghost use Rattle.on_segments.specs.Taking.{Taken, OfTakenBy};
 
 // A list with a place for one end of each segment that a net may have.
 fn for_ends() -> [u16; MOST_SEGMENTS]
@@ -55,7 +55,7 @@ fn build_taken(
     between: &mut [u16],
 ) -> Answer
     requires { ⌜ Taken says head m (now a) (now b) (now lengths) ⌝ }
-    ensures { λ r. ⌜ OfTaken says head m (now (a .entry)) (now (b .entry)) (now (lengths .entry))
+    ensures { λ r. ⌜ OfTakenBy says head m (a .entry) (b .entry) (lengths .entry)
         (λ n. Leaves n m (now (lightest .entry)) (now (shortest .entry)) (now (between .entry))
         r (now (lightest .exit)) (now (shortest .exit)) (now (between .exit))) ⌝ }
 {
@@ -106,7 +106,7 @@ fn margin_taken(
     post: u32,
 ) -> MarginAnswer
     requires { ⌜ Taken says head m (now a) (now b) (now lengths) ⌝ }
-    ensures { λ r. ⌜ OfTaken says head m (now (a .entry)) (now (b .entry)) (now (lengths .entry))
+    ensures { λ r. ⌜ OfTakenBy says head m (a .entry) (b .entry) (lengths .entry)
         (λ n. r ≡ marginAnswerOf (marginOf every n m tree post)) ⌝ }
 {
     match says {
@@ -139,7 +139,7 @@ fn write_taken(
     room: &mut [u8],
 ) -> WriteAnswer
     requires { ⌜ Taken says head m (now a) (now b) (now lengths) ⌝ }
-    ensures { λ r. ⌜ OfTaken says head m (now (a .entry)) (now (b .entry)) (now (lengths .entry))
+    ensures { λ r. ⌜ OfTakenBy says head m (a .entry) (b .entry) (lengths .entry)
         (λ n. Writes n m (now (room .entry)) r (now (room .exit))) ⌝ }
 {
     match says {

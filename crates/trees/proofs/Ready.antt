@@ -19,8 +19,9 @@ use Rattle.lightest.proofs.Fitting.{inside-fit}
 use Rattle.lightest.proofs.Presence.{belonging-every}
 use Rattle.shortest.specs.Rows.{Index}
 use Rattle.shortest.proofs.Trees.{length-first, first-at}
+use Rattle.between.specs.Given.{Level}
 use Rattle.between.specs.Asked.{Walkable, walkedOf, ThirdTree}
-use Rattle.between.proofs.Nets.{walked-of-net, net-walkable, least-low}
+use Rattle.between.proofs.Nets.{walked-of-net, net-walkable, length-lengths, least-low}
 use Rattle.net.specs.Ready.{netAt, Ready}
 use Rattle.net.proofs.Ready.{ready-count, ready-few, ready-posts, ready-inside}
 use Rattle.trees.specs.Worked.{AllThere, Worked}
@@ -51,6 +52,9 @@ module _ {head : Head} {a b lengths : List ℕ} (r : Ready head a b lengths) whe
         a-in = λ i h o. rw (← s .a-is i) (ready-inside r .a-in i (omega (arith, ready-count r)) o);
         b-in = λ i h o. rw (← s .b-is i) (ready-inside r .b-in i (omega (arith, ready-count r)) o);
       }
+
+  level-at : Level a b lengths
+  level-at = record { b-level = r .b-level; lengths-level = r .lengths-level }
 
   pub ready-short : Short lengths
   ready-short =
@@ -93,22 +97,21 @@ module _ {head : Head} {a b lengths : List ℕ} (r : Ready head a b lengths) whe
             tree-is = rw (posts-is, source-is) at (front-only posts (shortest (segmentsOf a b lengths) every posts source) t₀ t (l ∙ sym posts-is) f);
           }
 
-      -- the third tree: what is asked, and what is left
-      module _ {dist short : List ℕ} (w : Worked (netAt head a b lengths) dist short) where
-        pub walkable-at : Walkable posts source (head .p) (head .q) a b lengths dist
-        walkable-at =
-            rw (posts-is, source-is, w .lengths-are)
-            (net-walkable (length (segmentsOf a b lengths)) head a b lengths (record { b-level = r .b-level; lengths-level = r .lengths-level }) (le-refl _) (r .sound))
+  module _ {source : ℕ} (source-is : source ≡ head .source) {dist short : List ℕ} (w : Worked (netAt head a b lengths) dist short) where
+    pub dist-long : length dist ≡ head .posts
+    dist-long = ap length (w .lengths-are) ∙ length-lengths (length (segmentsOf a b lengths)) head a b lengths level-at (le-refl _) (r .sound)
 
-        module _ {light : List ℕ} (light-is : light ≡ lightestOf every (netAt head a b lengths)) where
-          walked-at : walkedOf posts source (head .p) (head .q) a b lengths light short dist ≡ walkOf every (netAt head a b lengths)
-          walked-at = rw (posts-is, source-is, light-is, w .lengths-are, w .tree-is) (walked-of-net every head a b lengths)
+    -- the third tree: what is asked, and what is left
+    pub walkable-at : Walkable source (head .p) (head .q) a b lengths short dist
+    walkable-at = rw (source-is, w .lengths-are, w .tree-is) (net-walkable (length (segmentsOf a b lengths)) head a b lengths level-at (le-refl _) (r .sound))
 
-          pub third-at : {laid : ℕ} {old t : List ℕ} → length old ≡ head .posts → ThirdTree posts source (head .p) (head .q) a b lengths light short dist old laid t
-              → (laid ≡ length (laidOf every (netAt head a b lengths))) × (t ≡ betweenOf every (netAt head a b lengths))
-          unfolding laidOf betweenOf
-          third-at {laid} {old} {t} k z =
-              (rw walked-at at (z .count), rw walked-at at (front-only posts ((walkedOf posts source (head .p) (head .q) a b lengths light short dist) .entries) old t (k ∙ sym posts-is) (z .tree)))
+    pub third-at : {light : List ℕ} → light ≡ lightestOf every (netAt head a b lengths) → {laid : ℕ} {t : List ℕ} → ThirdTree source (head .p) (head .q) a b lengths light short dist laid t
+        → (laid ≡ length (laidOf every (netAt head a b lengths))) × (t ≡ betweenOf every (netAt head a b lengths))
+    unfolding laidOf betweenOf
+    third-at {light} light-is {laid} {t} z =
+        let walked-at : walkedOf source (head .p) (head .q) a b lengths light short dist ≡ walkOf every (netAt head a b lengths) =
+        rw (source-is, light-is, w .lengths-are, w .tree-is) (walked-of-net (length (segmentsOf a b lengths)) head a b lengths level-at (le-refl _) (r .sound)) in
+        (rw walked-at at (z .count), rw walked-at at (z .tree))
 
   -- the least length of a post
   module _ {dist short : List ℕ} (w : Worked (netAt head a b lengths) dist short) (post : ℕ) (h : post < length dist) where
@@ -118,5 +121,5 @@ module _ {head : Head} {a b lengths : List ℕ} (r : Ready head a b lengths) whe
     -- no least length is above "none yet"
     pub least-small : getD dist post 0 ≤ noneYet
     least-small =
-        let z = least-low (length (segmentsOf a b lengths)) head a b lengths (record { b-level = r .b-level; lengths-level = r .lengths-level }) (le-refl _) (r .sound) post in
+        let z = least-low (length (segmentsOf a b lengths)) head a b lengths level-at (le-refl _) (r .sound) post in
         omega (arith, least-at, z)

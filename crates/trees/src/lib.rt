@@ -209,10 +209,8 @@ fn third_tree(
     ensures { λ r. ⌜ r ≡ size (laidOf every (netBy head (a .entry) (b .entry) (lengths .entry))) ⌝ }
     ensures { λ _. ⌜ now (tree .exit) ≡ betweenOf every (netBy head (a .entry) (b .entry) (lengths .entry)) ⌝ }
 {
-    let posts = index_of(head.posts);
     let source = index_of(head.source);
     between::third_tree(
-        posts,
         source,
         head.p,
         head.q,

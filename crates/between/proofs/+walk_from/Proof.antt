@@ -1,12 +1,14 @@
 -- `walk_from` meets its contract: it calls itself with a smaller `left`. The loop's invariant is `Along`: the notes are those of the legs so far, and c is
 -- the next child. The measure is how far c's segment is from the last one. Assumes nothing.
+use mathlib.Core.Path.{_≡_, refl, _∙_}
+use Prim.Native.Nat.{_-_}
+use lib.ListN.{length}
+use Rattle.net.specs.Walk.{Given}
+use Rattle.between.specs.Asked.{Walking, Turned}
+use Rattle.between.proofs.Turns.{Looping, Along, ahead, walk-end, looping, along-start, along-end, ahead-less, turn-asks, turn-fits, along-turn}
 use borrow.Author.Needs.{needs}
 use native.Mathlib.Omega.{arith}
-use Prim.Native.Nat.{ℕ, _-_, _<_}
-use mathlib.Core.Path.{_∙_}
-use lib.ListN.{length}
-use Rattle.between.specs.Given.{givenOf}
-use Rattle.between.proofs.Turns.{Along, ahead, walking-enters, walk-end, along-start, along-end, ahead-less, turn-asks, turn-fits, along-turn}
+use Prim.Native.Nat.{ℕ, _<_}
 use borrow.Fn.Kinds.{In}
 use borrow.Fn.PlainCycle.{Measures, is, falls, and}
 use Rattle.between.proofs.walk_from.Reads as walk-from
@@ -31,12 +33,14 @@ walk-from-below t =
     and 10 walk-from-kinds.ps (falls 10 walk-from-kinds.ps _<_ μ-walk-from t) walk-from.Pre
 
 abbrev walk-from-Inv-loop : walk-from-lts.InvT-loop
-walk-from-Inv-loop left v posts p q a b long walked shortest dist first after d₀ entries₀ laid₀ c₀ d entries laid c =
-    Along (givenOf posts p q a b long walked shortest dist) posts (left - 1) v d₀ entries₀ laid₀ c d entries laid
+walk-from-Inv-loop left v walked first after limits lengths shortest up dist d₀ entries₀ laid₀ c₀ d entries laid c =
+    ((g : Given) → Looping g (left - 1) v walked first after limits lengths shortest up dist d₀ entries₀ laid₀ → Along g (length first) (left - 1) v shortest up dist d₀ entries₀ laid₀ c d entries laid)
+    × (length d ≡ length d₀)
+    × (length entries ≡ length entries₀)
 
 abbrev walk-from-μ-loop : walk-from-lts.MeasureT-loop
-walk-from-μ-loop left v posts p q a b long walked shortest dist first after d₀ entries₀ laid₀ c₀ d entries laid c =
-    ahead (length a) walked c
+walk-from-μ-loop left v walked first after limits lengths shortest up dist d₀ entries₀ laid₀ c₀ d entries laid c =
+    ahead (length lengths) walked c
 
 walk-from-returns : (t : ℕ) → walk-from-lts.Need-returns (
   enter-post-reads.Asked,
@@ -52,7 +56,7 @@ walk-from-returns : (t : ℕ) → walk-from-lts.Need-returns (
   walk-from-below t,
   walk-from.Post,
 ) (walk-from-at t) walk-from.Post walk-from-Inv-loop walk-from-μ-loop
-walk-from-returns t c = walk-end (c .before .before .before .before .before .before .before .before .before .before .before .pre .1) (c .if1 .taken)
+walk-from-returns t c = λ g w. walk-end w (c .if1 .taken)
 
 walk-from-enter-post-requires : (t : ℕ) → walk-from-lts.Need-enter-post-requires (
   enter-post-reads.Asked,
@@ -68,7 +72,7 @@ walk-from-enter-post-requires : (t : ℕ) → walk-from-lts.Need-enter-post-requ
   walk-from-below t,
   walk-from.Post,
 ) (walk-from-at t) walk-from.Post walk-from-Inv-loop walk-from-μ-loop
-walk-from-enter-post-requires t c κs = c .before .before .before .before .before .before .before .before .before .before .before .before .before .pre .1 .small
+walk-from-enter-post-requires t c κs = c .before .before .before .before .before .before .before .before .before .pre .1 .turned .layable
 
 walk-from-entry-at-requires : (t : ℕ) → walk-from-lts.Need-entry-at-requires (
   enter-post-reads.Asked,
@@ -100,8 +104,7 @@ walk-from-loop-holds : (t : ℕ) → walk-from-lts.Need-loop-holds (
   walk-from-below t,
   walk-from.Post,
 ) (walk-from-at t) walk-from.Post walk-from-Inv-loop walk-from-μ-loop
-walk-from-loop-holds t c = let w = c .before .before .before .before .before .before .before .before .before .before .before .before .before .before .before .before .before .before .before .pre .1 in along-start w (c .before .before .before .before .before .before .before .before .if1 .left)
-    (c .before .before .before .before .before .enter-post .ensures _ (walking-enters w)) _ (c .entry-at .ensures)
+walk-from-loop-holds t c = (λ g l. along-start l _ (c .entry-at .ensures), refl, refl)
 
 walk-from-wide-requires : (t : ℕ) → walk-from-lts.Need-wide-requires (
   enter-post-reads.Asked,
@@ -213,18 +216,23 @@ walk-from-walk-from-requires : (t : ℕ) → walk-from-lts.Need-walk-from-requir
   walk-from-below t,
   walk-from.Post,
 ) (walk-from-at t) walk-from.Post walk-from-Inv-loop walk-from-μ-loop
-walk-from-walk-from-requires t c
-    κs = (
+walk-from-walk-from-requires t c κs =
+    let w = c .before .before .before .before .before .before .before .before .before .before .before .before .before .before .before .before .before .before .before .before .before .before .before .before .before .before .before .before .before .before .before .pre .1 .turned in
+    let l = looping w (c .before .before .before .before .before .before .before .before .before .before .before .before .before .before .before .before .before .before .before .before .before .before .before .before .if1 .left)
+    (c .before .before .before .before .before .before .before .before .before .before .before .before .before .before .before .before .before .before .before .before .before .enter-post .ensures _ (w .shown .enters _ (w .is-post))) in (
       omega (
         arith,
-        c .before .before .before .before .before .before .before .before .before .before .before .before .before .before .before .before .before .before .before .before .before .before .before .before .before .before .before .before .before .before .before .before .before .before
-            .pre .0,
-        c .before .before .before .before .before .before .before .before .before .before .before .before .before .before .before .before .before .before .before .before .before .before .before .if1 .left,
+        c .before .before .before .before .before .before .before .before .before .before .before .before .before .before .before .before .before .before .before .before .before .before .before .before .before .before .before .before .before .before .before .pre .0,
+        c .before
+            .before .before .before .before .before .before .before .before .before .before .before .before .before .before .before .before .before .before .before .before .before .before .before .if1 .left,
       ),
-      turn-asks (c .before .before .before .before .before .before .before .before .before .before .before .before .before .before .before .before .before .before .before .before .before .before .before .before .before .before .before .before .before .before .before .before .before .before .pre .1)
-          (c .before .before .before .before .before .before .before .before .before .before .before .before .before .before .loop .inv) (c .before .before .before .before .before .before .before .before .before .before .before .before .before .loop-test .taken) _ _
-          (c .before .before .before .before .before .before .before .before .before .before .before .before .wide .ensures .0) (c .before .before .before .before .before .before .before .before .before .before .before .entry-at2 .ensures) _ _
-          (c .before .before .before .before .before .before .before .before .before .before .wide2 .ensures .0) (c .before .before .before .before .before .before .before .before .before .length-at .ensures) _ _ (c .before .before .before .before .before .before .try-from .ensures _),
+      record {
+        given = _;
+        turned = turn-asks l (c .before .before .before .before .before .before .before .before .before .before .before .before .before .before .loop .inv .0 _ l)
+            (c .before .before .before .before .before .before .before .before .before .before .before .before .before .loop-test .taken) _ _ (c .before .before .before .before .before .before .before .before .before .before .before .before .wide .ensures .0)
+            (c .before .before .before .before .before .before .before .before .before .before .before .entry-at2 .ensures) _ _ (c .before .before .before .before .before .before .before .before .before .before .wide2 .ensures .0)
+            (c .before .before .before .before .before .before .before .before .before .length-at .ensures) _ _ (c .before .before .before .before .before .before .try-from .ensures _);
+      },
     )
 
 walk-from-add-laid : (t : ℕ) → walk-from-lts.Need-add-laid (
@@ -241,16 +249,26 @@ walk-from-add-laid : (t : ℕ) → walk-from-lts.Need-add-laid (
   walk-from-below t,
   walk-from.Post,
 ) (walk-from-at t) walk-from.Post walk-from-Inv-loop walk-from-μ-loop
-walk-from-add-laid t c = omega (
-  arith,
-  turn-fits (c .before .before .before .before .before .before .before .before .before .before .before .before .before .before .before .before .before .before .before .before .before .before .before .before .before .before .before .before .before .before .before .before .before .before .before
-      .before .before .before .before .pre .1) (c .before .before .before .before .before .before .before .before .before .before .before .before .before .before .before .before .before .before .before .loop .inv)
-      (c .before .before .before .before .before .before .before .before .before .before .before .before .before .before .before .before .before .before .loop-test .taken) _ _
-      (c .before .before .before .before .before .before .before .before .before .before .before .before .before .before .before .before .before .wide .ensures .0)
-      (c .before .before .before .before .before .before .before .before .before .before .before .before .before .before .before .before .entry-at2 .ensures) _ _
-      (c .before .before .before .before .before .before .before .before .before .before .before .before .before .before .before .wide2 .ensures .0) (c .before .before .before .before .before .before .before .before .before .before .before .before .before .before .length-at .ensures) _ _
-      (c .before .before .before .before .before .before .before .before .before .before .before .try-from .ensures _) _ _ _ (c .before .before .before .before .walk-from .ensures),
-)
+walk-from-add-laid t c =
+    let w = c .before .before .before .before .before .before .before .before .before .before .before .before .before .before .before .before .before .before .before .before .before .before .before .before .before .before .before .before .before .before .before .before .before .before
+    .before .before .pre .1 .turned in
+    let l = looping w (c .before .before .before .before .before .before .before .before .before .before .before .before .before .before .before .before .before .before .before .before .before .before .before .before .before .before .before .before .before .if1 .left)
+    (c .before .before .before .before .before .before .before .before .before .before .before .before .before .before .before .before .before .before .before .before .before .before .before .before .before .before .enter-post .ensures _ (w .shown .enters _ (w .is-post))) in
+    omega (
+      arith,
+      turn-fits l (c .before .before .before .before .before .before .before .before .before .before .before .before .before .before .before .before .before .before .before .loop .inv .0 _ l)
+          (c .before .before .before .before .before .before .before .before .before .before .before .before .before .before .before .before .before .before .loop-test .taken) _ _
+          (c .before .before .before .before .before .before .before .before .before .before .before .before .before .before .before .before .before .wide .ensures .0)
+          (c .before .before .before .before .before .before .before .before .before .before .before .before .before .before .before .before .entry-at2 .ensures) _ _
+          (c .before .before .before .before .before .before .before .before .before .before .before .before .before .before .before .wide2 .ensures .0) (c .before .before .before .before .before .before .before .before .before .before .before .before .before .before .length-at .ensures) _ _
+          (c .before .before .before .before .before .before .before .before .before .before .before .try-from .ensures _) _ _ _ (c .before .before .before .before .walk-from .ensures _ (turn-asks l
+          (c .before .before .before .before .before .before .before .before .before .before .before .before .before .before .before .before .before .before .before .loop .inv .0 _ l)
+          (c .before .before .before .before .before .before .before .before .before .before .before .before .before .before .before .before .before .before .loop-test .taken) _ _
+          (c .before .before .before .before .before .before .before .before .before .before .before .before .before .before .before .before .before .wide .ensures .0)
+          (c .before .before .before .before .before .before .before .before .before .before .before .before .before .before .before .before .entry-at2 .ensures) _ _
+          (c .before .before .before .before .before .before .before .before .before .before .before .before .before .before .before .wide2 .ensures .0) (c .before .before .before .before .before .before .before .before .before .before .before .before .before .before .length-at .ensures) _ _
+          (c .before .before .before .before .before .before .before .before .before .before .before .try-from .ensures _))),
+    )
 
 walk-from-try-from-requires-2 : (t : ℕ) → walk-from-lts.Need-try-from-requires-2 (
   enter-post-reads.Asked,
@@ -298,13 +316,16 @@ walk-from-loop-less : (t : ℕ) → walk-from-lts.Need-loop-less (
   walk-from-below t,
   walk-from.Post,
 ) (walk-from-at t) walk-from.Post walk-from-Inv-loop walk-from-μ-loop
-walk-from-loop-less t c = ahead-less
-    (c .before .before .before .before .before .before .before .before .before .before .before .before .before .before .before .before .before .before .before .before .before .before .before .before .before .before .before .before .before .before .before .before .before .before .before .before
-    .before .before .before .before .before .before .before .before .before .before .before .pre .1)
-    (c .before .before .before .before .before .before .before .before .before .before .before .before .before .before .before .before .before .before .before .before .before .before .before .before .before .before .before .loop .inv)
-    (c .before .before .before .before .before .before .before .before .before .before .before .before .before .before .before .before .before .before .before .before .before .before .before .before .before .before .loop-test .taken) _ _
-    (c .before .before .before .before .before .before .before .before .before .before .before .before .before .before .before .before .before .before .before .before .before .before .before .before .before .wide .ensures .0)
-    (c .before .before .before .before .before .before .before .before .before .before .before .before .before .before .before .before .before .before .before .before .before .before .before .before .entry-at2 .ensures) _ (c .entry-at3 .ensures)
+walk-from-loop-less t c =
+    let w = c .before .before .before .before .before .before .before .before .before .before .before .before .before .before .before .before .before .before .before .before .before .before .before .before .before .before .before .before .before .before .before .before .before .before
+    .before .before .before .before .before .before .before .before .before .before .before .pre .1 .turned in
+    let l = looping w (c .before .before .before .before .before .before .before .before .before .before .before .before .before .before .before .before .before .before .before .before .before .before .before .before .before .before .before .before .before .before .before .before .before
+    .before .before .before .before .before .if1 .left) (c .before .before .before .before .before .before .before .before .before .before .before .before .before .before .before .before .before .before .before .before .before .before .before .before .before .before .before .before .before
+    .before .before .before .before .before .before .enter-post .ensures _ (w .shown .enters _ (w .is-post))) in
+    ahead-less l (c .before .before .before .before .before .before .before .before .before .before .before .before .before .before .before .before .before .before .before .before .before .before .before .before .before .before .before .before .loop .inv .0 _ l)
+    (c .before .before .before .before .before .before .before .before .before .before .before .before .before .before .before .before .before .before .before .before .before .before .before .before .before .before .before .loop-test .taken) _ _
+    (c .before .before .before .before .before .before .before .before .before .before .before .before .before .before .before .before .before .before .before .before .before .before .before .before .before .before .wide .ensures .0)
+    (c .before .before .before .before .before .before .before .before .before .before .before .before .before .before .before .before .before .before .before .before .before .before .before .before .before .entry-at2 .ensures) _ (c .entry-at3 .ensures)
 
 walk-from-loop-again : (t : ℕ) → walk-from-lts.Need-loop-again (
   enter-post-reads.Asked,
@@ -320,21 +341,30 @@ walk-from-loop-again : (t : ℕ) → walk-from-lts.Need-loop-again (
   walk-from-below t,
   walk-from.Post,
 ) (walk-from-at t) walk-from.Post walk-from-Inv-loop walk-from-μ-loop
-walk-from-loop-again t c = along-turn
-    (c .before .before .before .before .before .before .before .before .before .before .before .before .before .before .before .before .before .before .before .before .before .before .before .before .before .before .before .before .before .before .before .before .before .before .before .before
-    .before .before .before .before .before .before .before .before .before .before .before .pre .1)
-    (c .before .before .before .before .before .before .before .before .before .before .before .before .before .before .before .before .before .before .before .before .before .before .before .before .before .before .before .loop .inv)
-    (c .before .before .before .before .before .before .before .before .before .before .before .before .before .before .before .before .before .before .before .before .before .before .before .before .before .before .loop-test .taken) _ _
-    (c .before .before .before .before .before .before .before .before .before .before .before .before .before .before .before .before .before .before .before .before .before .before .before .before .before .wide .ensures .0)
-    (c .before .before .before .before .before .before .before .before .before .before .before .before .before .before .before .before .before .before .before .before .before .before .before .before .entry-at2 .ensures) _ _
-    (c .before .before .before .before .before .before .before .before .before .before .before .before .before .before .before .before .before .before .before .before .before .before .before .wide2 .ensures .0)
-    (c .before .before .before .before .before .before .before .before .before .before .before .before .before .before .before .before .before .before .before .before .before .before .length-at .ensures) _ _
-    (c .before .before .before .before .before .before .before .before .before .before .before .before .before .before .before .before .before .before .before .try-from .ensures _) _ _ _
-    (c .before .before .before .before .before .before .before .before .before .before .before .before .walk-from .ensures) _ _ (c .before .before .before .before .before .try-from2 .ensures _)
-    (c .before .before .before .before .before .try-from2 .kept .1 .1 .1 .1 .0 ∙ c .before .before .before .before .before .before .before .before .before .before .before .before .walk-from .kept .1 .1 .1 .1 .1 .1 .1 .1 .1 .1 .1 .1 .1 .0
-    ∙ c .before .before .before .before .before .before .before .before .before .before .before .before .before .before .before .before .before .before .before .try-from .kept .1 .1 .1 .1 .0)
-    (c .before .before .before .before .before .try-from2 .kept .1 .1 .1 .1 .1 .0 ∙ c .before .before .before .before .before .before .before .before .before .before .before .before .walk-from .kept .1 .1 .1 .1 .1 .1 .1 .1 .1 .1 .1 .1 .1 .1 .0
-    ∙ c .before .before .before .before .before .before .before .before .before .before .before .before .before .before .before .before .before .before .before .try-from .kept .1 .1 .1 .1 .1 .0) _ (c .entry-at3 .ensures)
+walk-from-loop-again t c = (
+  λ g l.
+      along-turn l (c .before .before .before .before .before .before .before .before .before .before .before .before .before .before .before .before .before .before .before .before .before .before .before .before .before .before .before .before .loop .inv .0 _ l)
+      (c .before .before .before .before .before .before .before .before .before .before .before .before .before .before .before .before .before .before .before .before .before .before .before .before .before .before .before .loop-test .taken) _ _
+      (c .before .before .before .before .before .before .before .before .before .before .before .before .before .before .before .before .before .before .before .before .before .before .before .before .before .before .wide .ensures .0)
+      (c .before .before .before .before .before .before .before .before .before .before .before .before .before .before .before .before .before .before .before .before .before .before .before .before .before .entry-at2 .ensures) _ _
+      (c .before .before .before .before .before .before .before .before .before .before .before .before .before .before .before .before .before .before .before .before .before .before .before .before .wide2 .ensures .0)
+      (c .before .before .before .before .before .before .before .before .before .before .before .before .before .before .before .before .before .before .before .before .before .before .before .length-at .ensures) _ _
+      (c .before .before .before .before .before .before .before .before .before .before .before .before .before .before .before .before .before .before .before .before .try-from .ensures _) _ _ _
+      (c .before .before .before .before .before .before .before .before .before .before .before .before .before .walk-from .ensures _ (turn-asks l
+      (c .before .before .before .before .before .before .before .before .before .before .before .before .before .before .before .before .before .before .before .before .before .before .before .before .before .before .before .before .loop .inv .0 _ l)
+      (c .before .before .before .before .before .before .before .before .before .before .before .before .before .before .before .before .before .before .before .before .before .before .before .before .before .before .before .loop-test .taken) _ _
+      (c .before .before .before .before .before .before .before .before .before .before .before .before .before .before .before .before .before .before .before .before .before .before .before .before .before .before .wide .ensures .0)
+      (c .before .before .before .before .before .before .before .before .before .before .before .before .before .before .before .before .before .before .before .before .before .before .before .before .before .entry-at2 .ensures) _ _
+      (c .before .before .before .before .before .before .before .before .before .before .before .before .before .before .before .before .before .before .before .before .before .before .before .before .wide2 .ensures .0)
+      (c .before .before .before .before .before .before .before .before .before .before .before .before .before .before .before .before .before .before .before .before .before .before .before .length-at .ensures) _ _
+      (c .before .before .before .before .before .before .before .before .before .before .before .before .before .before .before .before .before .before .before .before .try-from .ensures _))) _ _ (c .before .before .before .before .before .before .try-from2 .ensures _) _ (c .entry-at3 .ensures),
+  c .before .before .before .before .before .before .try-from2 .kept .1 .1 .1 .1 .0 ∙ c .before .before .before .before .before .before .before .before .before .before .before .before .before .walk-from .kept .1 .1 .1 .1 .1 .1 .1 .1 .1 .1 .0 ∙ c .before .before .before .before .before
+      .before .before .before .before .before .before .before .before .before .before .before .before .before .before .before .try-from .kept .1 .1 .1 .1 .0 ∙ c .before .before .before .before .before .before .before .before .before .before .before .before .before .before .before .before
+      .before .before .before .before .before .before .before .before .before .before .before .before .loop .inv .1,
+  c .before .before .before .before .before .before .try-from2 .kept .1 .1 .1 .1 .1 .0 ∙ c .before .before .before .before .before .before .before .before .before .before .before .before .before .walk-from .kept .1 .1 .1 .1 .1 .1 .1 .1 .1 .1 .1 .0 ∙ c .before .before .before .before
+      .before .before .before .before .before .before .before .before .before .before .before .before .before .before .before .before .try-from .kept .1 .1 .1 .1 .1 .0 ∙ c .before .before .before .before .before .before .before .before .before .before .before .before .before .before .before
+      .before .before .before .before .before .before .before .before .before .before .before .before .before .loop .inv .2,
+)
 
 walk-from-same-length : (t : ℕ) → walk-from-lts.Need-same-length (
   enter-post-reads.Asked,
@@ -350,7 +380,7 @@ walk-from-same-length : (t : ℕ) → walk-from-lts.Need-same-length (
   walk-from-below t,
   walk-from.Post,
 ) (walk-from-at t) walk-from.Post walk-from-Inv-loop walk-from-μ-loop
-walk-from-same-length t c = c .before .loop .inv .d-long ∙ c .before .before .before .before .before .before .before .enter-post .kept .1 .1 .1 .1 .1 .1 .1 .1 .1 .0
+walk-from-same-length t c = c .before .loop .inv .1 ∙ c .before .before .before .before .before .before .before .before .enter-post .kept .1 .1 .1 .1 .1 .1 .0
 
 walk-from-same-length-2 : (t : ℕ) → walk-from-lts.Need-same-length-2 (
   enter-post-reads.Asked,
@@ -366,7 +396,7 @@ walk-from-same-length-2 : (t : ℕ) → walk-from-lts.Need-same-length-2 (
   walk-from-below t,
   walk-from.Post,
 ) (walk-from-at t) walk-from.Post walk-from-Inv-loop walk-from-μ-loop
-walk-from-same-length-2 t c = c .before .loop .inv .e-long ∙ c .before .before .before .before .before .before .before .enter-post .kept .1 .1 .1 .1 .1 .1 .1 .1 .1 .1 .0
+walk-from-same-length-2 t c = c .before .loop .inv .2 ∙ c .before .before .before .before .before .before .before .before .enter-post .kept .1 .1 .1 .1 .1 .1 .1 .0
 
 walk-from-returns-2 : (t : ℕ) → walk-from-lts.Need-returns-2 (
   enter-post-reads.Asked,
@@ -382,8 +412,9 @@ walk-from-returns-2 : (t : ℕ) → walk-from-lts.Need-returns-2 (
   walk-from-below t,
   walk-from.Post,
 ) (walk-from-at t) walk-from.Post walk-from-Inv-loop walk-from-μ-loop
-walk-from-returns-2 t c = let w = c .before .before .before .before .before .before .before .before .before .before .before .before .before .before .before .before .before .before .before .before .before .pre .1 in
-    along-end w (c .before .before .before .before .before .before .before .before .before .before .if1 .left) (c .before .before .before .before .before .before .before .enter-post .ensures _ (walking-enters w)) (c .before .loop .inv) (c .loop-test .left)
+walk-from-returns-2 t c = λ g w.
+    let en = c .before .before .before .before .before .before .before .before .enter-post .ensures _ (w .shown .enters _ (w .is-post)) in
+    along-end w (c .before .before .before .before .before .before .before .before .before .before .before .if1 .left) en (c .before .loop .inv .0 g (looping w (c .before .before .before .before .before .before .before .before .before .before .before .if1 .left) en)) (c .loop-test .left)
 
 pub +walk-from-spec : {M : Type 1} → statement M
 +walk-from-spec = close μ-walk-from λ t. walk-from-lts.spec (

@@ -11,16 +11,8 @@ note-at-requires c κs = search needs
 note-at-requires-2 : tie.Need-note-at-requires-2
 note-at-requires-2 c κs = search needs
 
-is-over-requires : tie.Need-is-over-requires
-is-over-requires c κs = let s = c .before .before .before .before .before .before .before .before .before .before .pre in (
-  omega arith,
-  omega arith,
-  omega (arith, s .d-low (c .before .before .before .before .before .before .before .before .before .before .args .v)),
-  omega (arith, s .D-low (c .before .before .before .before .before .before .before .before .before .before .args .v)),
-)
-
 lay-path-requires : tie.Need-lay-path-requires
-lay-path-requires c κs = search needs
+lay-path-requires c κs = c .before .before .before .before .before .before .before .before .before .before .before .before .pre
 
 same-length : tie.Need-same-length
 same-length c = search needs
@@ -29,14 +21,14 @@ same-length-2 : tie.Need-same-length-2
 same-length-2 c = search needs
 
 returns : tie.Need-returns
-returns c = λ g en. enter-over en _ _ _ _ _ (c .before .before .before .before .before .before .before .before .before .before .note-at .ensures) (c .before .before .before .before .before .before .before .before .before .note-at2 .ensures)
-    (c .before .before .before .before .before .before .before .before .is-over .ensures) (c .before .before .before .before .before .before .before .if1 .taken) _ _ (c .before .before .before .before .lay-path .ensures g (en .direct))
+returns c = λ g en. enter-over en _ _ _ _ (c .before .before .before .before .before .before .before .before .before .before .note-at .ensures) (c .before .before .before .before .before .before .before .before .note-at2 .ensures)
+    (c .before .before .before .before .before .before .before .if1 .taken) _ _ (c .before .before .before .before .before .before .before .before .before .before .before .before .before .before .before .before .before .pre) (c .before .before .before .before .lay-path .ensures g _ (en .direct))
 
 same-length-3 : tie.Need-same-length-3
 same-length-3 c = search needs
 
 returns-2 : tie.Need-returns-2
-returns-2 c = λ g en. enter-under en _ _ _ _ _ (c .before .before .before .note-at .ensures) (c .before .before .note-at2 .ensures) (c .before .is-over .ensures) (c .if1 .left)
+returns-2 c = λ g en. enter-under en _ _ _ _ (c .before .before .before .note-at .ensures) (c .before .note-at2 .ensures) (c .if1 .left)
 
 pub enter-post-spec : {M : Type 1} → statement M
 enter-post-spec =
@@ -44,7 +36,6 @@ enter-post-spec =
     (tie.spec
     note-at-requires
     note-at-requires-2
-    is-over-requires
     lay-path-requires
     same-length
     same-length-2

@@ -1,27 +1,22 @@
 -- `link_children` meets its contract. The loop's invariant: the links by the segments from number i on are made. The measure is i. Assumes nothing.
-use mathlib.Core.Path.{_≡_, refl, sym, ap, _∙_}
+use mathlib.Core.Path.{_≡_, refl}
 use Prim.Native.Nat.{ℕ, _≤_}
-use lib.ListN.{length, replicate}
-use Rattle.net.specs.Words.{noSegment}
+use lib.ListN.{length}
 use Rattle.between.specs.Children.{Indexed}
-use Rattle.between.proofs.Links.{indexed-start, indexed-turn, indexed-end, inside-size}
+use Rattle.between.proofs.Links.{indexed-start, indexed-turn, indexed-end}
 use borrow.Author.Needs.{needs}
 use native.Mathlib.Omega.{arith}
 use Rattle.between.proofs.link_children.Statement.{statement}
 use Rattle.between.proofs.link_children.Tie as tie
 
 abbrev Inv-loop : tie.InvT-loop
-Inv-loop a b walked first₀ after₀ i₀ first after i =
-    (i ≤ length a) × (length first ≡ length first₀) × (length after ≡ length after₀) × Indexed a b walked (length first₀) i first after
+Inv-loop a b walked first₀ after₀ i₀ first after i = (i ≤ length a) × (length first ≡ length first₀) × (length after ≡ length after₀) × Indexed a b walked (length first₀) i first after
 
 abbrev μ-loop : tie.MeasureT-loop
 μ-loop a b walked first₀ after₀ i₀ first after i = i
 
-clear-requires : tie.Need-clear-requires Inv-loop μ-loop
-clear-requires c κs = search needs
-
 loop-holds : tie.Need-loop-holds Inv-loop μ-loop
-loop-holds c = (omega arith, refl, refl, indexed-start _ _ _ _ _ _ (c .before .before .clear .ensures ∙ ap (λ (k : ℕ). replicate k noSegment) (sym (c .before .before .clear .kept .0))))
+loop-holds c = (omega arith, refl, refl, indexed-start _ _ _ _ _ _ (c .before .before .before .before .before .pre .2))
 
 sub-i : tie.Need-sub-i Inv-loop μ-loop
 sub-i c = omega arith
@@ -43,8 +38,7 @@ loop-again c = let v = c .before .before .before .before .before .before .before
   omega arith,
   omega arith,
   omega arith,
-  indexed-turn (v .3) (inside-size (c .before .before .before .before .before .before .before .before .before .before .before .before .before .clear .kept .0)
-      (c .before .before .before .before .before .before .before .before .before .before .before .before .before .before .before .before .before .before .before .before .pre .0)) (omega arith) (omega arith) (omega arith) (omega arith) _ _
+  indexed-turn (v .3) (c .before .before .before .before .before .before .before .before .before .before .before .before .before .before .before .before .pre .0) (omega arith) (omega arith) (omega arith) (omega arith) _ _
       (c .before .before .before .before .before .before .before .before .end-at .ensures) (c .before .before .before .before .before .before .before .end-at2 .ensures) _ _ (c .before .before .before .before .adopt-both .ensures),
 )
 
@@ -55,7 +49,7 @@ same-length-2 : tie.Need-same-length-2 Inv-loop μ-loop
 same-length-2 c = search needs
 
 returns : tie.Need-returns Inv-loop μ-loop
-returns c = indexed-end (c .before .before .before .before .clear .kept .0) (omega arith) (c .before .loop .inv .3)
+returns c = indexed-end refl (omega arith) (c .before .loop .inv .3)
 
 pub link-children-spec : {M : Type 1} → statement M
 link-children-spec =
@@ -63,7 +57,6 @@ link-children-spec =
     (tie.spec
     Inv-loop
     μ-loop
-    clear-requires
     loop-holds
     sub-i
     end-at-requires

@@ -1,5 +1,6 @@
 -- `third_tree` meets its contract: one call over the least lengths and the two other trees of the net. Assumes nothing.
-use Rattle.trees.proofs.Ready.{walkable-at, third-at}
+use mathlib.Core.Path.{sym, _∙_}
+use Rattle.trees.proofs.Ready.{dist-long, walkable-at, third-at}
 use native.Mathlib.Omega.{arith}
 use borrow.Author.Needs.{needs}
 use Rattle.trees.proofs.third_tree.Statement.{statement}
@@ -8,23 +9,16 @@ use Rattle.trees.proofs.third_tree.Tie as tie
 index-of-requires : tie.Need-index-of-requires
 index-of-requires c κs = search needs
 
-index-of-requires-2 : tie.Need-index-of-requires-2
-index-of-requires-2 c κs = search needs
-
 third-tree-requires : tie.Need-third-tree-requires
-third-tree-requires c κs =
-    let p = c .before .before .before .before .before .before .before .before .before .before .pre in
-    (walkable-at (p .0 .0) (c .before .before .index-of .ensures) (c .before .index-of2 .ensures) (p .1 .0), omega arith)
+third-tree-requires c κs = let p = c .before .before .before .before .before .before .before .before .before .pre in
+    let e = c .before .index-of .ensures in
+    (walkable-at (p .0 .0) e (p .1 .0), p .0 .1 ∙ sym (dist-long (p .0 .0) e (p .1 .0)))
 
 same-length : tie.Need-same-length
 same-length c = omega arith
 
 returns : tie.Need-returns
-returns c =
-    let p = c .before .before .before .before .before .before .before .before .before .before .before .before .before .pre in
-    third-at (p .0 .0) (c .before .before .before .before .before .index-of .ensures) (c .before .before .before .before .index-of2 .ensures) (p .1 .0) (p .1 .1) (p .0 .1) (c .before .before .third-tree .ensures)
+returns c = let p = c .before .before .before .before .before .before .before .before .before .before .before .before .pre in third-at (p .0 .0) (c .before .before .before .before .index-of .ensures) (p .1 .0) (p .1 .1) (c .before .before .third-tree .ensures)
 
 pub third-tree-spec : {M : Type 1} → statement M
-third-tree-spec =
-    tie.close
-    (tie.spec index-of-requires index-of-requires-2 third-tree-requires same-length returns)
+third-tree-spec = tie.close (tie.spec index-of-requires third-tree-requires same-length returns)
