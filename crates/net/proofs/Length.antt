@@ -10,13 +10,13 @@ use lib.Seq.{getD-set-same, getD-set-other}
 use lib.Dec.{eqb}
 use Rattle.net.specs.Words.{sum, counted, noSegment}
 use Rattle.net.specs.Net.{lengthAt, other, Leads, weigh}
-use Rattle.net.specs.Trees.{at, entry, hangs, parent, whole}
+use Rattle.net.specs.Trees.{at, entry, hangs, parent, whole, usedBy}
 use Rattle.net.specs.Walk.{Notes, Given, atStart, hangBy, try, lay, count, enter, walk}
 use Rattle.net.proofs.Words.{counted-le}
 use Rattle.net.proofs.Sums.{sum-le, sum-add, sum-zeros, sum-change}
 use Rattle.net.proofs.Routes.{leads-back, far-end}
 use Rattle.net.proofs.Least.{leads-from, leads-to}
-use Rattle.net.proofs.Used.{usedBy, entryLength, used-cost, list-cost}
+use Rattle.net.proofs.Used.{entryLength, used-cost, list-cost}
 use Rattle.net.proofs.Steps.{try-cases, lay-cases, enter-cases, lay-none, try-laid, lay-laid, count-entries, count-laid}
 use Rattle.net.proofs.Notes.{Owed, Fine, late-step, fine-try, fine-lay, fine-enter, fine-start, start-entry, hooked}
 use Rattle.net.proofs.Tour.{Move, tour, moves, moves-enter, moves-try, moves-none, walk-is-tour, Trip, stay, enters, goes, tour-trip, fine-moves}

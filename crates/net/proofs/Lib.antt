@@ -25,6 +25,7 @@ pub mod Shortest
 pub mod Between
 pub mod Margin
 pub mod Sound
+pub mod Measuring
 pub mod Ready
 pub mod OneWalk
 pub mod WalkRuled

@@ -14,12 +14,12 @@ use Rattle.net.proofs.Sums.{sum-le}
 use Rattle.net.specs.Net.{segmentAt, lengthAt, Chain, SpanningTree, setLength}
 use Rattle.net.proofs.Routes.{leads-back, no-third, stay, join, along, back, ends-lead, far-end, without, without-keeps, widen}
 use Rattle.net.proofs.Least.{Inside, inside-part, leads-from, leads-to, least-is, least-most, fewest-few}
-use Rattle.net.specs.Trees.{noneYet, at, one, HangsBy, fewest, hungFrom, belongs, belongsAt, lightest, ExactlyBelonging, entry, hangs, parent, Climb, arrived, up, IsTree, whole}
+use Rattle.net.specs.Trees.{noneYet, at, one, HangsBy, fewest, hungFrom, belongs, belongsAt, lightest, ExactlyBelonging, entry, hangs, parent, Climb, arrived, up, IsTree, whole, usedBy}
 use Rattle.net.proofs.Hung.{length-hung, hung-says, hung-hangs, hung-source, least-zero}
 use Rattle.net.proofs.Belongs.{Spans, belongs-says, belongs-is, no-ring, belongs-at, belongsAt-says, belongsAt-chain}
 use Rattle.net.proofs.Exchange.{belongs-least}
 use Rattle.net.proofs.Climbs.{climb-chain}
-use Rattle.net.proofs.Used.{hangs-entry, usedBy, entry-used, used-entry, used-cost, list-cost}
+use Rattle.net.proofs.Used.{hangs-entry, entry-used, used-entry, used-cost, list-cost}
 use Rattle.net.specs.declared.Segment.{Segment}
 
 -- TREES

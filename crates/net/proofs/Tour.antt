@@ -12,12 +12,12 @@ use lib.Dec.{eqb}
 use borrow.Author.Tests.{eqb-true}
 use Rattle.net.specs.Words.{each, only}
 use Rattle.net.specs.Net.{touches, other, Leads}
-use Rattle.net.specs.Trees.{entry, parent}
+use Rattle.net.specs.Trees.{entry, parent, usedBy}
 use Rattle.net.specs.Walk.{Notes, Given, atStart, try, enter, child, walk}
 use Rattle.net.proofs.Words.{and-left, and-right}
 use Rattle.net.proofs.Routes.{leads-back}
 use Rattle.net.proofs.Least.{leads-to}
-use Rattle.net.proofs.Used.{usedBy, entry-used}
+use Rattle.net.proofs.Used.{entry-used}
 use Rattle.net.proofs.Steps.{Lower, try-lower, enter-lower}
 use Rattle.net.proofs.Notes.{Owed, Fine, fine-try, fine-enter, fine-start, Limit, limit-lower, enter-limit}
 

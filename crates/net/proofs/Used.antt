@@ -7,34 +7,26 @@ use Prim.Native.Nat.{ℕ, _≤_, _<_}
 use native.Mathlib.Omega.{arith}
 use native.Mathlib.Decide.{decLt}
 use lib.ListN.{length}
-use lib.Dec.{eqb, ltb}
-use borrow.Author.Tests.{eqb-true, eqb-false, eq-eqb, ne-eqb, ltb-true, lt-ltb}
+use lib.Dec.{eqb}
+use borrow.Author.Tests.{eqb-true, eqb-false, eq-eqb, ne-eqb}
 use Rattle.net.specs.Words.{sum, counted, noSegment}
 use Rattle.net.specs.Net.{lengthAt, setLength}
-use Rattle.net.specs.Trees.{entry, hangs, whole}
+use Rattle.net.specs.Trees.{entry, hangs, usedBy, whole}
 use Rattle.net.specs.declared.Segment.{Segment}
-use Rattle.net.proofs.Words.{and-left, and-right, not-true, counted-pos, counted-mono, bit}
-use Rattle.net.proofs.Sums.{sum-le, sum-only, sum-swap, sum-one-of, sum-some}
+use Rattle.net.proofs.Words.{and-left, and-right, not-true, any-of, any-some, counted-pos, counted-mono}
+use Rattle.net.proofs.Sums.{sum-le, sum-only, sum-swap, sum-one-of}
 
 -- the entry of a post that hangs is not 65,535
 pub hangs-entry : (t : List ℕ) (v : ℕ) → hangs t v ≡ true → entry t v ≡ noSegment → ⊥
 hangs-entry t v e k = eqb-false (entry t v) noSegment (not-true (eqb (entry t v) noSegment) e) k
 
--- some post of the list hangs by segment i
-unfoldable pub usedBy : ℕ → List ℕ → ℕ → Bool
-usedBy n t i = ltb 0 (sum n (λ c. bit (eqb (entry t c) i)))
-
 pub entry-used : (n : ℕ) (t : List ℕ) (c i : ℕ) → c < n → entry t c ≡ i → usedBy n t i ≡ true
 unfolding usedBy
-entry-used n t c i h e =
-    let b : bit (eqb (entry t c) i) ≡ 1 = ap bit (eq-eqb (entry t c) i e) in
-    lt-ltb 0 (sum n (λ c. bit (eqb (entry t c) i))) (omega (arith, b, sum-one-of n (λ c. bit (eqb (entry t c) i)) c h))
+entry-used n t c i h e = any-of (λ v. eqb (entry t v) i) n c h (eq-eqb (entry t c) i e)
 
 pub used-entry : (n : ℕ) (t : List ℕ) (i : ℕ) → usedBy n t i ≡ true → (c : ℕ) × (c < n) × (entry t c ≡ i)
 unfolding usedBy
-used-entry n t i e =
-    let z = sum-some n (λ c. bit (eqb (entry t c) i)) (ltb-true 0 (sum n (λ c. bit (eqb (entry t c) i))) e) in
-    (z .0, z .1, eqb-true (entry t (z .0)) i ((counted-pos (eqb (entry t (z .0)) i) 1 (z .2)) .0))
+used-entry n t i e = let z = any-some (λ v. eqb (entry t v) i) n e in (z .0, z .1, eqb-true (entry t (z .0)) i (z .2))
 
 module _ (segs : List Segment) (n : ℕ) (t : List ℕ) where
   abbrev pub entryLength : ℕ → ℕ

@@ -3,14 +3,14 @@ use mathlib.Core.Path.{_≡_, refl, sym, ap, _∙_}
 use mathlib.Core.Bool.{Bool, true, false, not, _&&_, _||_}
 use mathlib.Core.Logic.{_⊎_, inl, inr}
 use mathlib.Core.List.{[], _∷_}
-use Prim.Native.Nat.{ℕ, zero, suc, _≤_, _<_, min}
+use Prim.Native.Nat.{ℕ, zero, suc, _≤_, _<_, min, max}
 use native.Mathlib.Omega.{arith}
 use native.Mathlib.Decide.{decLt, decLe}
 use lib.ListN.{length, getD, length-append, List·getD-append, List·getD-eq-default}
 use lib.Seq.{getD-at}
 use lib.Dec.{eqb}
 use borrow.Author.Tests.{eqb-true, eqb-false}
-use Rattle.net.specs.Words.{each, only, tab, counted, noSegment, leastOf, lowest}
+use Rattle.net.specs.Words.{each, only, tab, counted, noSegment, largest, any, leastOf, lowest}
 
 module _ {S : Type 0} (f : ℕ → S) where
   pub length-tab : (n : ℕ) → length (tab n f) ≡ n
@@ -118,6 +118,45 @@ so-false false f = refl
 pub true-or-false : (a : Bool) → (a ≡ true) ⊎ (a ≡ false)
 true-or-false true = inl refl
 true-or-false false = inr refl
+
+-- some number passes
+module _ (t : ℕ → Bool) where
+  pub any-of : (n i : ℕ) → i < n → t i ≡ true → any n t ≡ true
+  any-of zero i h e = absurd (omega arith)
+  any-of (suc n) i h e = elim (decLt i n) [
+    | yes p ↦ or-left (any n t) (t n) (any-of n i p e)
+    | no p ↦ let q : i ≡ n = omega arith in or-right (any n t) (t n) (rw q at e)
+  ]
+
+  pub any-some : (n : ℕ) → any n t ≡ true → (i : ℕ) × (i < n) × (t i ≡ true)
+  any-some zero e = absurd (let z : _≡_ {A = ℕ} 0 1 = cc in omega arith)
+  any-some (suc n) e = elim (or-cases (any n t) (t n) e) [
+    | inl p ↦ let z = any-some n p in (z .0, omega (arith, z .1), z .2)
+    | inr p ↦ (n, omega arith, p)
+  ]
+
+-- the largest is at least each, and is one of them
+module _ (f : ℕ → ℕ) where
+  pub largest-most : (n i : ℕ) → i < n → f i ≤ largest n f
+  largest-most zero i h = absurd (omega arith)
+  largest-most (suc n) i h = elim (decLt i n) [
+    | yes p ↦ omega (arith, largest-most n i p)
+    | no p ↦ let q : i ≡ n = omega arith in rw q (omega arith)
+  ]
+
+  pub largest-one : (n : ℕ) → 0 < n → (i : ℕ) × (i < n) × (f i ≡ largest n f)
+  largest-one zero h = absurd (omega arith)
+  largest-one (suc n) h = elim (decLt (f n) (largest n f)) [
+    | yes p ↦ elim (decLt 0 n) [
+      | yes k ↦ let z = largest-one n k in (z .0, omega (arith, z .1), omega (arith, z .2))
+      | no k ↦ let q : n ≡ 0 = omega arith in absurd (none-less n q p)
+    ]
+    | no p ↦ (n, omega arith, omega arith)
+  ]
+    where
+      none-less : (m : ℕ) → m ≡ 0 → f m < largest m f → ⊥
+      none-less zero e k = omega arith
+      none-less (suc m) e k = omega arith
 
 -- what is counted
 pub counted-le : (a : Bool) (c : ℕ) → counted a c ≤ c

@@ -7,7 +7,7 @@ use Prim.Native.Nat.{ℕ, zero, suc, _+_, _*_, _≤_, _<_}
 use lib.Dec.{eqb, ltb}
 use lib.ListN.{length, getD}
 use lib.IntN.{ℤ, subℕ}
-use Rattle.net.specs.Words.{each, only, tab, counted, sum, largest, leastOf, lowest, noSegment}
+use Rattle.net.specs.Words.{each, only, tab, counted, sum, largest, any, leastOf, lowest, noSegment}
 use Rattle.net.specs.Net.{segmentAt, lengthAt, touches, other, before, Leads, Route, Chain, weigh}
 use Rattle.net.specs.declared.Segment.{Segment}
 
@@ -119,6 +119,10 @@ entry t v = getD t v noSegment
 
 abbrev pub hangs : List ℕ → ℕ → Bool
 hangs t v = not (eqb (entry t v) noSegment)
+
+-- the segments by which n posts hang: i is the entry of one of them
+unfoldable pub usedBy : ℕ → List ℕ → ℕ → Bool
+usedBy n t i = any n (λ v. eqb (entry t v) i)
 
 -- the entries of the list t are exactly the segments that belong: each of them belongs, each that belongs where s leads
 -- is one, and no two posts have the same

@@ -1,7 +1,7 @@
 -- The words that the definitions of a net are written in: a thing done for each number below n, a thing done only where
 -- a test passes, a list given by its rule, a sum, a least and a lowest. Relies on nothing of ours; every other file of
 -- specs/ stands on it.
-use mathlib.Core.Bool.{Bool, true, false, _&&_}
+use mathlib.Core.Bool.{Bool, true, false, _&&_, _||_}
 use mathlib.Core.List.{List, [], _∷_, _++_}
 use Prim.Native.Nat.{ℕ, zero, suc, _+_, min, max}
 use lib.Dec.{eqb}
@@ -34,6 +34,10 @@ sum n f = each n (λ i x. x + f i) 0
 -- the largest of f 0, f 1, .., f (n − 1), and 0 where there is none
 abbrev pub largest : ℕ → (ℕ → ℕ) → ℕ
 largest n f = each n (λ i x. max x (f i)) 0
+
+-- some number below n passes the test
+abbrev pub any : ℕ → (ℕ → Bool) → Bool
+any n t = each n (λ i b. b || t i) false
 
 -- the least of x and of every f i with i below m that passes the test
 abbrev pub leastOf : ℕ → (ℕ → Bool) → (ℕ → ℕ) → ℕ → ℕ

@@ -10,7 +10,7 @@ use lib.ListN.{length, take, drop}
 use lib.Seq.{take-at, drop-at, take-append-seam}
 use Rattle.net.specs.Net.{Net, every}
 use Rattle.net.specs.Rules.{NetSound, AllJoined}
-use Rattle.net.specs.Trees.{IsTree, pathIn, marginBy}
+use Rattle.net.specs.Trees.{IsTree, pathIn, radius, whole, marginBy}
 use Rattle.net.specs.Building as B
 use Rattle.net.specs.Building.{built, lightestOf, shortestOf, betweenOf, laidOf, givenWith, walkOf, treeOf, measured, buildAnswer, marginRefusal, marginIn, marginAnswer, marginOf}
 use Rattle.net.specs.declared.Measured.{Measured}
@@ -18,7 +18,8 @@ use Rattle.net.specs.declared.Segment.{Segment}
 use Rattle.net.specs.declared.Refusal.{Refusal}
 use Rattle.net.specs.declared.Tree.{Tree}
 use Rattle.net.specs.declared.Tree.the-variants.{Lightest, Shortest, Between}
-use Rattle.net.proofs.Sound.{D-is-least, shortest-says, lightest-exactly, lightest-tree, shortest-tree, between-tree}
+use Rattle.net.proofs.Sound.{inside, few, D-is-least, shortest-says, lightest-exactly, lightest-tree, shortest-tree, between-tree}
+use Rattle.net.proofs.Measuring.{tree-length, radius-most, radius-one}
 use Rattle.net.proofs.WalkRuled.{net-walk, only-net-walk}
 use Rattle.crossings.specs.Lists.{netOn}
 use Rattle.building.specs.Answers.{saysOf, Leaves}
@@ -49,7 +50,7 @@ use Rattle.drawn.specs.Says.{saysOf as drawnSays}
 use Rattle.drawn.specs.declared.Answer.the-variants.{Length}
 use Rattle.drawn.proofs.Rules.{same-says}
 use Rattle.drawn.proofs.Lengths.{straight-length, length-straight, corner-length, length-corner}
-use Rattle.promises.specs.Demand2.{ByTheRules, TreesAsStated, Holds, BuiltAsStated, PlannedAsStated, MarginAsStated, RecordsBothWays, DrawnAsStated, Demand2}
+use Rattle.promises.specs.Demand2.{ByTheRules, TreesAsStated, Measures, Holds, BuiltAsStated, PlannedAsStated, MarginAsStated, RecordsBothWays, DrawnAsStated, Demand2}
 use Rattle.promises.proofs.Taken.{taken-sound, taken-joined, answers, after, planned-net}
 
 -- THE TREES
@@ -93,6 +94,20 @@ module _ (n : Net) (m : ℕ) (fits : length (n .segments) ≤ m) (l s w : List �
   stated : TreesAsStated n
   stated = trees-as-stated n m fits (taken-sound n m l s w leaves says) (taken-joined n m l s w leaves says)
 
+  -- what a tree's measures come to
+  measures : (t : List ℕ) → IsTree (n .segments) every (n .head .posts) (n .head .source) t (pathIn (n .segments) (n .head .posts) t) → (r : Measured)
+      → r ≡ record { length = whole (n .segments) (n .head .posts) t; radius = radius (n .segments) (n .head .posts) t } → Measures n t r
+  measures t tree r e =
+      let sound = taken-sound n m l s w leaves says in
+      let within = inside every m n fits sound in
+      let small = few every m n fits sound in
+      rw e
+      (record {
+        length-is = tree-length (n .segments) every (n .head .posts) (n .head .source) within small t tree;
+        none-longer = radius-most (n .segments) every (n .head .posts) (n .head .source) within small t tree;
+        one-as-long = radius-one (n .segments) every (n .head .posts) (n .head .source) within small t tree (sound .head-sound .source-in);
+      })
+
   pub built-as-stated : BuiltAsStated n l s w l′ s′ w′ x y z k
   unfolding buildAnswer measured treeOf
   built-as-stated =
@@ -105,9 +120,9 @@ module _ (n : Net) (m : ℕ) (fits : length (n .segments) ≤ m) (l s w : List �
         holds-lightest = h;
         holds-shortest = i;
         holds-between = j;
-        measures-lightest = rw (h .tree) (record { length-is = cc e; radius-is = cc e });
-        measures-shortest = rw (i .tree) (record { length-is = cc e; radius-is = cc e });
-        measures-between = rw (j .tree) (record { length-is = cc e; radius-is = cc e });
+        measures-lightest = rw (h .tree) (measures (lightestOf every n) (stated .lightest-tree) x (cc e));
+        measures-shortest = rw (i .tree) (measures (shortestOf every n) (stated .shortest-tree) y (cc e));
+        measures-between = rw (j .tree) (measures (betweenOf every n) (stated .between-tree) z (cc e));
         laid-is = cc e;
       }
 

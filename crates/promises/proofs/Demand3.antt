@@ -9,7 +9,8 @@ use Rattle.net.specs.Rules.{NetSound, AllJoined}
 use Rattle.net.specs.Building.{built, betweenOf, laidOf, walkOf, walkWith}
 use Rattle.net.specs.declared.Measured.{Measured}
 use Rattle.net.proofs.Cost.{AllOf, all-of}
-use Rattle.net.proofs.Sound.{between-tree, laid-length, laid-sum}
+use Rattle.net.proofs.Sound.{inside, few, between-tree, laid-length, laid-sum}
+use Rattle.net.proofs.Measuring.{tree-length}
 use Rattle.net.proofs.Demand.{path-limit, no-slack, length-limit, length-limit-tree}
 use Rattle.crossings.specs.Lists.{netOn}
 use Rattle.building.specs.Answers.{Leaves, saysOf}
@@ -48,7 +49,9 @@ module _ (n : Net) (m : ℕ) (fits : length (n .segments) ≤ m) (l s w : List �
   bounds-left =
       let b = built-as-stated n m fits l s w leaves says in
       let c : Bounds n (take (n .head .posts) w′) = rw (b .holds-between .tree) (bounds n m fits (taken-sound n m l s w leaves says) (taken-joined n m l s w leaves says)) in
-      (c, record { any-spanning-tree = λ U span. rw (b .measures-between .length-is) (c .length-spanning U span) })
+      let sound = taken-sound n m l s w leaves says in
+      let e = tree-length (n .segments) every (n .head .posts) (n .head .source) (inside every m n fits sound) (few every m n fits sound) (take (n .head .posts) w′) (c .reaches) in
+      (c, record { any-spanning-tree = λ U span. rw (b .measures-between .length-is, ← e) (c .length-spanning U span) })
 
 -- of a record that was planned
 bounds-planned : (bytes l s w : List ℕ) {a : PlanAnswer} {l′ s′ w′ : List ℕ} {q : Plan} → Plans bytes l s w a l′ s′ w′ → saysPlanned a ≡ result q

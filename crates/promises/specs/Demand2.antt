@@ -20,8 +20,8 @@ use Rattle.net.specs.declared.Measured.{Measured}
 use Rattle.net.specs.declared.Segment.{Segment}
 use Rattle.net.specs.declared.Tree.{Tree}
 use Rattle.net.specs.declared.Tree.the-variants.{Shortest, Between}
-use Rattle.net.specs.Net.{Net, every, lengthAt}
-use Rattle.net.specs.Trees.{at, IsLeast, HangsBy, ExactlyBelonging, IsTree, entry, pathIn, whole, radius}
+use Rattle.net.specs.Net.{Net, every, lengthAt, setLength}
+use Rattle.net.specs.Trees.{at, IsLeast, HangsBy, ExactlyBelonging, Climb, IsTree, entry, usedBy, pathIn}
 use Rattle.net.specs.Walk.{Notes, Given}
 use Rattle.net.specs.WalkRules.{WalkGives}
 use Rattle.net.specs.Building.{built, lightestOf, leastLengthsOf, shortestOf, betweenOf, laidOf, treeOf, marginOf}
@@ -91,10 +91,13 @@ pub record TreesAsStated (n : Net) : Type 0 where
       (pathIn (n .segments) (n .head .posts) (betweenOf every n))
 
 -- WHAT BUILDING LEAVES
--- the answer's length and radius are those of the tree list t
+-- the answer's length and radius are those of the tree list t: the length of the set of the segments by which its
+-- posts hang; "Radius is the longest path from the source in that tree": no path is longer, and one is as long
 pub record Measures (n : Net) (t : List ℕ) (m : Measured) : Type 0 where
-  pub length-is : m .length ≡ whole (n .segments) (n .head .posts) t
-  pub radius-is : m .radius ≡ radius (n .segments) (n .head .posts) t
+  pub length-is : m .length ≡ setLength (n .segments) (usedBy (n .head .posts) t)
+  pub none-longer : (v long : ℕ) → v < n .head .posts → Climb (n .segments) every t (n .head .source) v long
+      → long ≤ m .radius
+  pub one-as-long : (v : ℕ) × (v < n .head .posts) × Climb (n .segments) every t (n .head .source) v (m .radius)
 
 -- a lent list that held `before` now begins with the tree t, and is as it was behind it
 pub record Holds (n : Net) (t before now : List ℕ) : Type 0 where
