@@ -18,7 +18,7 @@ use Rattle.net.specs.declared.Segment.{Segment}
 use Rattle.net.proofs.Words.{or-left, or-right, or-cases, clash, so-false}
 use Rattle.net.proofs.Least.{Inside}
 use Rattle.net.proofs.Routes.{widen}
-use Rattle.net.proofs.Belongs.{before-says, says-before, belongs-says, belongs-is}
+use Rattle.net.proofs.Belongs.{belongs-apart, apart-belongs, before-says, says-before, belongs-says, belongs-is}
 use Rattle.lightest.specs.Order.{Has, Sooner, Ordered, InOrder}
 use Rattle.lightest.specs.Parts.{share, JoinedParts}
 use Rattle.lightest.proofs.Ordering.{all-at, all-has, at-has, not-self, not-both}
@@ -148,7 +148,7 @@ module _ {segs : List Segment} {ok : ℕ → Bool} {n : ℕ} {numbers : List ℕ
       pub belongs-within : share labels ((segmentAt segs next) .a) ((segmentAt segs next) .b) ≡ true → belongs segs ok n next ≡ false
       belongs-within q =
           so-false (belongs segs ok n next)
-          (λ z. (belongs-says segs ok n (t .inside) (t .small) (t .few) next next-segment z) .apart
+          (λ z. belongs-apart segs ok n next (belongs-says segs ok n (t .inside) (t .small) (t .few) next next-segment z)
           (widen segs (λ j h s. sym (passed-earlier j h) ∙ s) (p .share-chain ((segmentAt segs next) .a) ((segmentAt segs next) .b) ha hb q)))
 
       pub passed-within : share labels ((segmentAt segs next) .a) ((segmentAt segs next) .b) ≡ true → Parts segs (passed ok (take (k + 1) numbers)) n labels
@@ -157,10 +157,8 @@ module _ {segs : List Segment} {ok : ℕ → Bool} {n : ℕ} {numbers : List ℕ
       -- they share none: it does, and the two parts are one
       pub belongs-joins : share labels ((segmentAt segs next) .a) ((segmentAt segs next) .b) ≡ false → belongs segs ok n next ≡ true
       belongs-joins q =
-          belongs-is segs ok n (t .inside) (t .small) (t .few) next (record {
-            there = e;
-            apart = λ c. clash (p .chain-share ((segmentAt segs next) .a) ((segmentAt segs next) .b) ha hb (widen segs (λ j h s. passed-earlier j h ∙ s) c)) q;
-          })
+          belongs-is segs ok n (t .inside) (t .small) (t .few) next (apart-belongs segs ok n next e
+          (λ c. clash (p .chain-share ((segmentAt segs next) .a) ((segmentAt segs next) .b) ha hb (widen segs (λ j h s. passed-earlier j h ∙ s) c)) q))
 
       pub passed-joins : {new : List ℕ} → JoinedParts labels ((segmentAt segs next) .a) ((segmentAt segs next) .b) new → Parts segs (passed ok (take (k + 1) numbers)) n new
       passed-joins j = parts-same segs (λ i h. passed-there e i) (parts-joined segs p next next-segment ha hb j)

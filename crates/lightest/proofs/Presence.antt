@@ -14,7 +14,7 @@ use Rattle.net.specs.declared.Segment.{Segment}
 use Rattle.net.proofs.Words.{and-i, and-left, and-right, length-tab, tab-at}
 use Rattle.net.proofs.Routes.{widen}
 use Rattle.net.proofs.Least.{Inside, inside-part}
-use Rattle.net.proofs.Belongs.{belongs-says, belongs-is}
+use Rattle.net.proofs.Belongs.{belongs-apart, apart-belongs, belongs-says, belongs-is}
 use Rattle.lightest.specs.Marks.{there, Fit}
 use Rattle.lightest.proofs.Fitting.{fit-length, fit-inside, fit-small, fit-few}
 use Rattle.lightest.proofs.Passing.{same-test}
@@ -25,10 +25,8 @@ module _ (segs : List Segment) (n : ℕ) (small : n ≤ noneYet) (few : length s
       → (i : ℕ) → i < length segs → belongs segs ok n i ≡ true → belongs segs ok′ n i ≡ true
   belongs-also ok ok′ same inside inside′ i h e =
       let z = belongs-says segs ok n inside small few i h e in
-      belongs-is segs ok′ n inside′ small few i (record {
-        there = sym (same i h) ∙ z .there;
-        apart = λ c. z .apart (widen segs (λ j k o. and-i (same j k ∙ and-left (ok′ j) (before segs j i) o) (and-right (ok′ j) (before segs j i) o)) c);
-      })
+      belongs-is segs ok′ n inside′ small few i (apart-belongs segs ok′ n i (sym (same i h) ∙ z .there)
+      (λ c. belongs-apart segs ok n i z (widen segs (λ j k o. and-i (same j k ∙ and-left (ok′ j) (before segs j i) o) (and-right (ok′ j) (before segs j i) o)) c)))
 
   -- present tests that agree on the segments have the same belonging ones
   pub belonging-same : (ok ok′ : ℕ → Bool) → ((j : ℕ) → j < length segs → ok j ≡ ok′ j) → Inside segs ok n → belonging segs ok n ≡ belonging segs ok′ n

@@ -10,10 +10,10 @@ use native.Mathlib.Decide.{decLt}
 use lib.ListN.{length}
 use lib.Dec.{eqb, ltb}
 use borrow.Author.Tests.{eqb-true, eq-eqb, ltb-true, lt-ltb}
-use Rattle.net.specs.Words.{sum, noSegment}
+use Rattle.net.specs.Words.{sum, AllOf, noSegment}
 use Rattle.net.proofs.Words.{and-i, and-left, and-right, or-left, or-right, or-cases, not-true, clash, so-false, true-or-false, tab-at, tab-out}
 use Rattle.net.proofs.Sums.{sum-one-of}
-use Rattle.net.specs.Net.{segmentAt, lengthAt, Leads, Chain, before, Before, JoinsAll}
+use Rattle.net.specs.Net.{segmentAt, lengthAt, Leads, Route, here, by, Chain, before, Before, JoinsAll}
 use Rattle.net.proofs.Routes.{join, along, replaced, back, ends-lead, either, without, without-self, Through, avoids, meets, widen, through}
 use Rattle.net.proofs.Least.{Inside, inside-part, leads-from, leads-to, joined-chain, not-joined}
 use Rattle.net.specs.Trees.{noneYet, joined, earlier, belongs, Belongs, belonging, belongsAt}
@@ -87,6 +87,26 @@ module _ (segs : List Segment) where
     | inr a ↦ elim (before-says j i q) [ inl b ↦ omega (arith, a .0) | inr b ↦ omega (arith, a .1, b .1) ]
   ]
 
+-- a route of segments that all stand before i, as the rule says it and as the test does
+module _ (segs : List Segment) (ok : ℕ → Bool) (n i : ℕ) where
+  tested : {u v : ℕ} {is : List ℕ} → AllOf (λ j. Before segs j i) is → Route segs ok u is v → Route segs (earlier segs ok n i) u is v
+  tested a here = here
+  tested a (by {i = j} l o r) = by l (and-i o (says-before segs j i (a .0))) (tested (a .1) r)
+
+  ruled : {u v : ℕ} {is : List ℕ} → Route segs (earlier segs ok n i) u is v → AllOf (λ j. Before segs j i) is × Route segs ok u is v
+  ruled here = (tt, here)
+  ruled (by {i = j} l o r) =
+      let z = ruled r in
+      ((before-says segs j i (and-right (ok j) (before segs j i) o), z .0), by l (and-left (ok j) (before segs j i) o) (z .1))
+
+  -- no chain of segments before it joins the ends of a segment that belongs
+  pub belongs-apart : Belongs segs ok n i → Chain segs (earlier segs ok n i) ((segmentAt segs i) .a) ((segmentAt segs i) .b) → ⊥
+  belongs-apart z c = let r = ruled (c .route) in z .apart (r .0) (r .1)
+
+  -- and one that is there belongs, where no chain does
+  pub apart-belongs : ok i ≡ true → (Chain segs (earlier segs ok n i) ((segmentAt segs i) .a) ((segmentAt segs i) .b) → ⊥) → Belongs segs ok n i
+  apart-belongs o f = record { there = o; apart = λ a r. f (record { is = _; route = tested a r }) }
+
 -- U is made of segments that are there, and joins the ends of each segment that is there
 pub record Spans (segs : List Segment) (ok U : ℕ → Bool) : Type 0 where
   pub made-of : (i : ℕ) → i < length segs → U i ≡ true → ok i ≡ true
@@ -149,7 +169,7 @@ module _ (segs : List Segment) (ok : ℕ → Bool) (n : ℕ) (few : length segs 
   module _ (b : ℕ) (is-segment : b < length segs) (belongs-b : Belongs segs ok n b) (out : U b ≡ false) where
     -- no chain of segments below b joins its ends
     none-below : (K : ℕ) → K ≤ suc (key segs b) → Chain segs (lower segs U K) ((segmentAt segs b) .a) ((segmentAt segs b) .b) → ⊥
-    none-below K h c = belongs-b .apart (widen segs before-b c)
+    none-below K h c = belongs-apart segs ok n b belongs-b (widen segs before-b c)
       where
         before-b : (j : ℕ) → j < length segs → lower segs U K j ≡ true → earlier segs ok n b j ≡ true
         before-b j hj e =
@@ -205,15 +225,12 @@ module _ (segs : List Segment) (ok : ℕ → Bool) (n : ℕ) (inside : Inside se
   belongs-says i h e =
       let o = and-left (ok i) (not (ends-joined i)) e in
       let apart = not-true (ends-joined i) (and-right (ok i) (not (ends-joined i)) e) in
-      record {
-        there = o;
-        apart = not-joined segs (earlier segs ok n i) n (inside-earlier i) ((segmentAt segs i) .a) ((segmentAt segs i) .b) (inside .a-in i h o) n-small apart;
-      }
+      apart-belongs segs ok n i o (not-joined segs (earlier segs ok n i) n (inside-earlier i) ((segmentAt segs i) .a) ((segmentAt segs i) .b) (inside .a-in i h o) n-small apart)
 
   -- and a segment that belongs passes the test
   pub belongs-is : (i : ℕ) → Belongs segs ok n i → belongs segs ok n i ≡ true
   unfolding belongs
-  belongs-is i z = and-i (z .there) (rw (so-false (ends-joined i) (λ e. z .apart (ends-chain i e))))
+  belongs-is i z = and-i (z .there) (rw (so-false (ends-joined i) (λ e. belongs-apart segs ok n i z (ends-chain i e))))
 
   not-belongs : (i : ℕ) → ok i ≡ true → belongs segs ok n i ≡ false → ends-joined i ≡ true
   unfolding belongs
@@ -254,7 +271,7 @@ module _ (segs : List Segment) (ok : ℕ → Bool) (n : ℕ) (inside : Inside se
       broken z =
           let hm = z .leads .is-segment in
           let rest = around z h (lower-earlier (z .m) i hm h e (z .above)) (λ j k o. lower-earlier (z .m) j hm k (another j o)) in
-          (belongs-says (z .m) hm (another (z .m) (z .in-set))) .apart (either segs (z .leads) rest (ends-lead segs (z .m) hm))
+          belongs-apart segs ok n (z .m) (belongs-says (z .m) hm (another (z .m) (z .in-set))) (either segs (z .leads) rest (ends-lead segs (z .m) hm))
 
   -- WORKED OUT ONCE. `belongsAt` says the same of each segment
   pub belongs-at : (i : ℕ) → i < length segs → belongsAt segs ok n i ≡ belongs segs ok n i

@@ -8,6 +8,7 @@ use Prim.Native.Nat.{ℕ, _+_, _*_, _≤_, _<_}
 use native.Mathlib.Omega.{arith}
 use native.Mathlib.Nat.{mul-le-mul-left, mul-le-mul-right, le-of-mul-le-mul-left, mul-add, zero-mul, zero-add, add-assoc, pos-of-ne-zero, le-of-lt}
 use lib.ListN.{length}
+use Rattle.net.specs.Words.{AllOf}
 use Rattle.net.specs.Net.{lengthAt, weigh}
 use Rattle.net.specs.Trees.{at}
 use Rattle.net.specs.Walk.{Notes, Given, atStart, try, lay, count, enter, walk}
@@ -37,11 +38,7 @@ way-append segs [] b = omega arith
 way-append segs (entering v ∷ a) b = way-append segs a b
 way-append segs (trying u i v ∷ a) b = omega (arith, way-append segs a b)
 
--- something holds of every number of a list
-abbrev pub AllOf : (ℕ → Type 0) → List ℕ → Type 0
-AllOf Q [] = Unit {0}
-AllOf Q (v ∷ vs) = Q v × AllOf Q vs
-
+-- what holds of every number holds of every number of a list
 pub all-of : (Q : ℕ → Type 0) → ((v : ℕ) → Q v) → (l : List ℕ) → AllOf Q l
 all-of Q f [] = tt
 all-of Q f (v ∷ vs) = (f v, all-of Q f vs)

@@ -17,8 +17,7 @@ use Rattle.net.specs.Trees.{at, IsLeast, Climb, pathIn, whole, entry, pa
 use Rattle.net.specs.Building.{leastLengthsOf, walkWith, treeOf, betweenOf, walkOf, marginIn}
 use Rattle.net.specs.declared.Segment.{Segment}
 use Rattle.net.proofs.Climbs.{climb-route}
-use Rattle.net.proofs.Cost.{AllOf}
-use Rattle.net.specs.Words.{noSegment}
+use Rattle.net.specs.Words.{AllOf, noSegment}
 use Rattle.net.specs.declared.Tree.{Tree}
 use Rattle.net.specs.declared.Tree.the-variants.{Lightest, Shortest, Between}
 use Rattle.net.proofs.Margin.{margin-within, margin-zero}

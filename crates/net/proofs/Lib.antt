@@ -31,3 +31,4 @@ pub mod OneWalk
 pub mod WalkRuled
 pub mod Demand
 pub mod Worked
+pub mod Ratios

@@ -11,7 +11,7 @@ use native.Mathlib.Decide.{decLt, ℕ-discrete}
 use lib.ListN.{length, List·getD-eq-default}
 use mathlib.Core.Logic.{inl, inr}
 use borrow.Author.Tests.{eq-eqb}
-use Rattle.net.specs.Words.{counted, noSegment}
+use Rattle.net.specs.Words.{counted, AllOf, noSegment}
 use Rattle.net.specs.Net.{Net, mostPosts, longest, lengthAt, other, Chain, weigh, setLength, JoinsAll, SpanningTree}
 use Rattle.net.specs.Rules.{NetSound, AllJoined}
 use Rattle.net.specs.Trees.{noneYet, at, IsLeast, Belongs, leastLengths, hangingWeight, lightest, ExactlyBelonging, entry, hangs, parent, whole, belongsAt, Climb, IsTree, pathIn, HangsBy}
@@ -29,7 +29,6 @@ use Rattle.net.proofs.Shortest.{given, owed, length-shortest, shortest-
 use Rattle.net.proofs.Notes.{Owed}
 use Rattle.net.proofs.Tour.{Down, stop, down-on, child-entry, child-parent}
 use Rattle.net.proofs.Belongs.{joins-spans}
-use Rattle.net.proofs.Cost.{AllOf}
 use Rattle.net.proofs.Length.{between-length}
 use Rattle.net.proofs.Climbs.{climb-path}
 use Rattle.net.proofs.Between.{length-between, between-source, laid-twice, between-weight, Within, between-climb}

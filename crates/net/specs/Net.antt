@@ -5,7 +5,7 @@ use mathlib.Core.Path.{_≡_}
 use mathlib.Core.Logic.{_⊎_}
 use mathlib.Core.Bool.{Bool, true, not, _&&_, _||_, cond}
 use mathlib.Core.List.{List, [], _∷_}
-use Prim.Native.Nat.{ℕ, _+_, _<_}
+use Prim.Native.Nat.{ℕ, _+_, _*_, _<_}
 use lib.Dec.{eqb, ltb}
 use lib.ListN.{length, getD, take}
 use Rattle.net.specs.Words.{sum, counted}
@@ -33,6 +33,10 @@ mostRatio = 10000
 pub record Net : Type 0 where
   pub head : Head
   pub segments : List Segment
+
+-- the same head with its ratio p/q written as (k × p)/(k × q): "The ratio isn't reduced"
+abbrev pub scaled : ℕ → Head → Head
+scaled k h = record { posts = h .posts; source = h .source; p = k * h .p; q = k * h .q }
 
 -- the net of a head and of the first m segments of a list
 abbrev pub netOf : Head → ℕ → List Segment → Net

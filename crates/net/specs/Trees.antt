@@ -7,8 +7,8 @@ use Prim.Native.Nat.{ℕ, zero, suc, _+_, _*_, _≤_, _<_}
 use lib.Dec.{eqb, ltb}
 use lib.ListN.{length, getD}
 use lib.IntN.{ℤ, subℕ}
-use Rattle.net.specs.Words.{each, only, tab, counted, sum, largest, any, leastOf, lowest, noSegment}
-use Rattle.net.specs.Net.{segmentAt, lengthAt, touches, other, before, Leads, Route, Chain, weigh}
+use Rattle.net.specs.Words.{each, only, tab, counted, sum, largest, any, AllOf, leastOf, lowest, noSegment}
+use Rattle.net.specs.Net.{segmentAt, lengthAt, touches, other, before, Before, Leads, Route, Chain, weigh}
 use Rattle.net.specs.declared.Segment.{Segment}
 
 -- "none yet", which is larger than any length, and stays so through any ratio: 1 × noneYet is greater than (10,000 + 1)
@@ -88,10 +88,11 @@ module _ (segs : List Segment) (ok : ℕ → Bool) (n : ℕ) where
   unfoldable pub belongs : ℕ → Bool
   belongs i = ok i && not (joined segs n (earlier i) ((segmentAt segs i) .a) ((segmentAt segs i) .b))
 
-  -- the same said as a rule
+  -- the same said as a rule: no route of segments that all stand before it leads from one end to the other
   pub record Belongs (i : ℕ) : Type 0 where
     pub there : ok i ≡ true
-    pub apart : Chain segs (earlier i) ((segmentAt segs i) .a) ((segmentAt segs i) .b) → ⊥
+    pub apart : {is : List ℕ} → AllOf (λ j. Before segs j i) is
+        → Route segs ok ((segmentAt segs i) .a) is ((segmentAt segs i) .b) → ⊥
 
   -- which segments belong, worked out once for all of them
   unfoldable pub belonging : List Bool

@@ -39,6 +39,11 @@ largest n f = each n (λ i x. max x (f i)) 0
 abbrev pub any : ℕ → (ℕ → Bool) → Bool
 any n t = each n (λ i b. b || t i) false
 
+-- P holds of every number of a list
+abbrev pub AllOf : (ℕ → Type 0) → List ℕ → Type 0
+AllOf P [] = Unit {0}
+AllOf P (v ∷ vs) = P v × AllOf P vs
+
 -- the least of x and of every f i with i below m that passes the test
 abbrev pub leastOf : ℕ → (ℕ → Bool) → (ℕ → ℕ) → ℕ → ℕ
 leastOf m t f = each m (λ i. only (t i) (λ y. min (f i) y))

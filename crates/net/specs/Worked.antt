@@ -100,6 +100,9 @@ pub record NetsWorked : Type 0 where
   pub a-1/1 : after (netA 1 1) 5 4 Between (7 ∷ 7 ∷ 7 ∷ 7 ∷ 7 ∷ []) ≡ 65535 ∷ 0 ∷ 1 ∷ 3 ∷ 7 ∷ []
   pub a-1/1-answer : answer (netA 1 1) 5 4 ≡ built (measures 12 12) (measures 15 6) (measures 13 8) 1
   pub a-1/1-margin : marginOf every (netA 1 1) 5 Lightest 3 ≡ margin (negsuc 1)
+  -- "2/2 and 1/1 build equal trees"
+  pub a-2/2 : after (netA 2 2) 5 4 Between (7 ∷ 7 ∷ 7 ∷ 7 ∷ 7 ∷ []) ≡ 65535 ∷ 0 ∷ 1 ∷ 3 ∷ 7 ∷ []
+  pub a-2/2-answer : answer (netA 2 2) 5 4 ≡ built (measures 12 12) (measures 15 6) (measures 13 8) 1
   -- (P) "0/1: 0 4 3, length 15, two laid."
   pub a-0/1 : after (netA 0 1) 5 4 Between (7 ∷ 7 ∷ 7 ∷ 7 ∷ []) ≡ 65535 ∷ 0 ∷ 4 ∷ 3 ∷ []
   pub a-0/1-answer : answer (netA 0 1) 5 4 ≡ built (measures 12 12) (measures 15 6) (measures 15 6) 2

@@ -2,17 +2,18 @@
 use mathlib.Core.Path.{_≡_, refl, sym, ap, _∙_}
 use mathlib.Core.Option.{Option, none, some}
 use mathlib.Core.List.{List, _++_}
-use Prim.Native.Nat.{ℕ, _≤_}
-use native.Mathlib.Nat.{le-refl}
+use Prim.Native.Nat.{ℕ, _*_, _≤_}
+use native.Mathlib.Nat.{le-refl, mul-le-mul-right}
 use native.Mathlib.Omega.{arith}
 use lib.IntN.{ℤ}
 use lib.ListN.{length, take, drop}
 use lib.Seq.{take-at, drop-at, take-append-seam}
-use Rattle.net.specs.Net.{Net, every}
+use Rattle.net.specs.Net.{Net, mostRatio, scaled, every}
 use Rattle.net.specs.Rules.{NetSound, AllJoined}
 use Rattle.net.specs.Trees.{IsTree, pathIn, radius, whole, marginBy}
 use Rattle.net.specs.Building as B
-use Rattle.net.specs.Building.{built, lightestOf, shortestOf, betweenOf, laidOf, givenWith, walkOf, treeOf, measured, buildAnswer, marginRefusal, marginIn, marginAnswer, marginOf}
+use Rattle.net.specs.Building.{built, afterBuild, lightestOf, shortestOf, betweenOf, laidOf, givenWith, walkOf, treeOf, measured, buildAnswer, marginRefusal, marginIn, marginAnswer, marginOf}
+use Rattle.net.specs.declared.Head.{Head}
 use Rattle.net.specs.declared.Measured.{Measured}
 use Rattle.net.specs.declared.Segment.{Segment}
 use Rattle.net.specs.declared.Refusal.{Refusal}
@@ -21,8 +22,9 @@ use Rattle.net.specs.declared.Tree.the-variants.{Lightest, Shortest, Between}
 use Rattle.net.proofs.Sound.{inside, few, D-is-least, shortest-says, lightest-exactly, lightest-tree, shortest-tree, between-tree}
 use Rattle.net.proofs.Measuring.{tree-length, radius-most, radius-one}
 use Rattle.net.proofs.WalkRuled.{net-walk, only-net-walk}
+use Rattle.net.proofs.Ratios.{build-scaled, after-scaled}
 use Rattle.crossings.specs.Lists.{netOn}
-use Rattle.building.specs.Answers.{saysOf, Leaves}
+use Rattle.building.specs.Answers.{answerOf, saysOf, lentOf, Leaves}
 use Rattle.margins.specs.Answers.{marginAnswerOf, marginSaysOf}
 use Rattle.building.specs.declared.Answer.{Answer}
 use Rattle.margins.specs.declared.MarginAnswer.{MarginAnswer}
@@ -50,7 +52,7 @@ use Rattle.drawn.specs.Says.{saysOf as drawnSays}
 use Rattle.drawn.specs.declared.Answer.the-variants.{Length}
 use Rattle.drawn.proofs.Rules.{same-says}
 use Rattle.drawn.proofs.Lengths.{straight-length, length-straight, corner-length, length-corner}
-use Rattle.promises.specs.Demand2.{ByTheRules, TreesAsStated, Measures, Holds, BuiltAsStated, PlannedAsStated, MarginAsStated, RecordsBothWays, DrawnAsStated, Demand2}
+use Rattle.promises.specs.Demand2.{ByTheRules, TreesAsStated, Measures, Holds, BuiltAsStated, PlannedAsStated, MarginAsStated, ScaledAsStated, RecordsBothWays, DrawnAsStated, Demand2}
 use Rattle.promises.proofs.Taken.{taken-sound, taken-joined, answers, after, planned-net}
 
 -- THE TREES
@@ -239,6 +241,27 @@ same-net n m room room₂ w s v t e =
 pub records-both-ways : RecordsBothWays
 records-both-ways = record { written-then-read = back; read-then-written = again; one-record = alike; one-net = same-net }
 
+-- THE RATIO
+pub scaled-as-stated : (h : Head) (k : ℕ) (segments : List Segment) → 1 ≤ k → k * h .p ≤ mostRatio → k * h .q ≤ mostRatio → ScaledAsStated h k segments
+scaled-as-stated h k segments once p q =
+    record {
+      equal-trees = λ l s w x y. (
+        x .answer ∙ ap answerOf (sym (build-scaled every (netOn h segments) k once p q (length segments) (lentOf l s w))) ∙ sym (y .answer),
+        x .lightest ∙ lists l s w Lightest l ∙ sym (y .lightest),
+        x .shortest ∙ lists l s w Shortest s ∙ sym (y .shortest),
+        x .between ∙ lists l s w Between w ∙ sym (y .between),
+      );
+      different-records = λ two room room₂ x ex y ey e.
+          let same : netOn h segments ≡ netOn (scaled k h) segments = same-net (netOn h segments) (netOn (scaled k h) segments) room room₂ x ex y ey e in
+          let q-same : h .q ≡ k * h .q = ap (λ m. m .head .q) same in
+          let some-q : 1 ≤ h .q = (recorded (netOn h segments) room x ex) .sound .head-sound .some-q in
+          omega (arith, mul-le-mul-right (h .q) two);
+    }
+  where
+    lists : (l s w : List ℕ) (t : Tree) (list : List ℕ) → afterBuild every (netOn h segments) (length segments) (lentOf l s w) t list
+        ≡ afterBuild every (netOn (scaled k h) segments) (length segments) (lentOf l s w) t list
+    lists l s w t list = sym (after-scaled every (netOn h segments) k once p q (length segments) (lentOf l s w) t list)
+
 -- DRAWN RUNS
 pub drawn-as-stated : DrawnAsStated
 drawn-as-stated =
@@ -255,6 +278,7 @@ demand-2 =
       plan = planned-as-stated;
       margin = λ h segments. margin-as-stated (netOn h segments) (length segments) (le-refl (length segments));
       margin-read = record-margin-as-stated;
+      ratio = scaled-as-stated;
       records = records-both-ways;
       drawn = drawn-as-stated;
     }

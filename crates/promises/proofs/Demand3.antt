@@ -4,11 +4,12 @@ use mathlib.Core.List.{List}
 use Prim.Native.Nat.{ℕ, _*_, _≤_}
 use native.Mathlib.Nat.{le-refl}
 use lib.ListN.{length, take}
+use Rattle.net.specs.Words.{AllOf}
 use Rattle.net.specs.Net.{Net, every}
 use Rattle.net.specs.Rules.{NetSound, AllJoined}
 use Rattle.net.specs.Building.{built, betweenOf, laidOf, walkOf, walkWith}
 use Rattle.net.specs.declared.Measured.{Measured}
-use Rattle.net.proofs.Cost.{AllOf, all-of}
+use Rattle.net.proofs.Cost.{all-of}
 use Rattle.net.proofs.Sound.{inside, few, between-tree, laid-length, laid-sum}
 use Rattle.net.proofs.Measuring.{tree-length}
 use Rattle.net.proofs.Demand.{path-limit, no-slack, length-limit, length-limit-tree}

@@ -20,7 +20,7 @@ use Rattle.net.specs.declared.Measured.{Measured}
 use Rattle.net.specs.declared.Segment.{Segment}
 use Rattle.net.specs.declared.Tree.{Tree}
 use Rattle.net.specs.declared.Tree.the-variants.{Shortest, Between}
-use Rattle.net.specs.Net.{Net, every, lengthAt, setLength}
+use Rattle.net.specs.Net.{Net, mostRatio, scaled, every, lengthAt, setLength}
 use Rattle.net.specs.Trees.{at, IsLeast, HangsBy, ExactlyBelonging, Climb, IsTree, entry, usedBy, pathIn}
 use Rattle.net.specs.Walk.{Notes, Given}
 use Rattle.net.specs.WalkRules.{WalkGives}
@@ -126,6 +126,19 @@ pub record PlannedAsStated (bytes l s w l′ s′ w′ : List ℕ) (q : Plan) : 
   pub count-is : q .count ≡ length (n .segments)
   pub built-is : BuiltAsStated n l s w l′ s′ w′ (q .lightest) (q .shortest) (q .between) (q .laid)
 
+-- THE RATIO: "The ratio isn't reduced: 2/2 and 1/1 build equal trees but are different records." Of the net of a head h
+-- and of the same net at (k × p)/(k × q)
+pub record ScaledAsStated (h : Head) (k : ℕ) (segments : List Segment) : Type 0 where
+  -- building gives them the same answer, measures and count of laid paths, and leaves the lists alike
+  pub equal-trees : (l s w : List ℕ) {a b : Answer} {l′ l₂ s′ s₂ w′ w₂ : List ℕ}
+      → Leaves (netOn h segments) (length segments) l s w a l′ s′ w′
+      → Leaves (netOn (scaled k h) segments) (length segments) l s w b l₂ s₂ w₂
+      → (a ≡ b) × (l′ ≡ l₂) × (s′ ≡ s₂) × (w′ ≡ w₂)
+  pub different-records : 2 ≤ k → (room room₂ : List ℕ) {a b : WriteAnswer} {size size₂ : ℕ} {x y : List ℕ}
+      → Writes (netOn h segments) (length segments) room a x → saysWritten a ≡ result size
+      → Writes (netOn (scaled k h) segments) (length segments) room₂ b y → saysWritten b ≡ result size₂
+      → take size x ≡ take size₂ y → ⊥
+
 -- A MARGIN z that is given for a post in the named tree: "It is signed, and below zero exactly when the post breaks the
 -- limit. For the source it is 0."
 pub record MarginAsStated (n : Net) (t : Tree) (post : ℕ) (z : ℤ) : Type 0 where
@@ -190,5 +203,8 @@ pub record Demand2 : Type 0 where
   pub margin-read : (bytes : List ℕ) (t : Tree) (post : ℕ) {a : MarginAnswer} {z : ℤ} → a ≡ marginRead bytes t post
       → marginSaysOf a ≡ B.MarginAnswer.margin z
       → {n : Net} {next : ℕ} → recordRead bytes ≡ got n next → MarginAsStated n t post z
+  -- both ratios within the bounds
+  pub ratio : (h : Head) (k : ℕ) (segments : List Segment) → 1 ≤ k → k * h .p ≤ mostRatio → k * h .q ≤ mostRatio
+      → ScaledAsStated h k segments
   pub records : RecordsBothWays
   pub drawn : DrawnAsStated

@@ -1,13 +1,13 @@
 -- The table of worked records holds: every row is computed from the definitions.
 use mathlib.Core.Path.{refl}
-use Rattle.net.specs.Refusals.{first, headLines, segmentLines}
+use Rattle.net.specs.Refusals.{first, headLines, segmentLines, presentLines, allSegmentLines, netLines}
 use Rattle.numbers.specs.Numbers.{groups, written, groupsAt, number}
 use Rattle.reading.specs.Reading.{hold, roomLines, heading, segment, segments, ended, restRead, netRead}
-use Rattle.writing.specs.Writing.{headWritten, segmentWritten, segmentsWritten, netWritten}
+use Rattle.writing.specs.Writing.{headWritten, segmentWritten, segmentsWritten, netWritten, shortLines, writeRefusal}
 use Rattle.reading.specs.Worked.{RecordsWorked}
 
 pub records-worked : RecordsWorked
-unfolding groups written groupsAt number first headLines segmentLines hold roomLines heading segment segments ended restRead netRead headWritten segmentWritten segmentsWritten netWritten
+unfolding groups written groupsAt number first headLines segmentLines presentLines allSegmentLines netLines hold roomLines heading segment segments ended restRead netRead headWritten segmentWritten segmentsWritten netWritten shortLines writeRefusal
 records-worked = record {
   p127 = refl;
   p128 = refl;
@@ -15,6 +15,9 @@ records-worked = record {
   p11 = refl;
   p-record = refl;
   p-read = refl;
+  writing-18 = refl;
+  writing-fits = refl;
+  four-before-18 = refl;
   largest = refl;
   largest-read = refl;
   fourth-more = refl;

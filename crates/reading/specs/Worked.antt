@@ -4,12 +4,13 @@
 use Prim.Native.Nat.{ℕ}
 use mathlib.Core.Path.{_≡_}
 use mathlib.Core.List.{List, [], _∷_}
+use mathlib.Core.Option.{none, some}
 use Rattle.net.specs.Net.{Net}
 use Rattle.net.specs.Refusals.{refusal}
 use Rattle.net.specs.declared.Segment.{Segment}
 use Rattle.numbers.specs.Numbers.{written, got, refused, number}
 use Rattle.reading.specs.Reading.{netRead}
-use Rattle.writing.specs.Writing.{netWritten}
+use Rattle.writing.specs.Writing.{netWritten, writeRefusal}
 
 abbrev pub joined : ℕ → ℕ → ℕ → Segment
 joined a b l = record { a = a; b = b; length = l }
@@ -38,6 +39,10 @@ pub record RecordsWorked : Type 0 where
   -- (P) the record of two posts
   pub p-record : netWritten twoPosts ≡ 2 ∷ 0 ∷ 1 ∷ 2 ∷ 1 ∷ 0 ∷ 1 ∷ 172 ∷ 2 ∷ []
   pub p-read : netRead (2 ∷ 0 ∷ 1 ∷ 2 ∷ 1 ∷ 0 ∷ 1 ∷ 172 ∷ 2 ∷ []) 1 0 ≡ got twoPosts 9
+  -- its nine bytes into a room of eight: 18; into one of nine, nothing is refused; 1 to 7 come before 18
+  pub writing-18 : writeRefusal twoPosts 1 8 ≡ some (refusal 18 0)
+  pub writing-fits : writeRefusal twoPosts 1 9 ≡ none
+  pub four-before-18 : writeRefusal twoPosts 2049 8 ≡ some (refusal 4 0)
   -- "268,435,455 is 255, 255, 255, 127"; a fourth group that says more
   pub largest : written 268435455 ≡ 255 ∷ 255 ∷ 255 ∷ 127 ∷ []
   pub largest-read : number (255 ∷ 255 ∷ 255 ∷ 127 ∷ []) 0 ≡ got 268435455 4
