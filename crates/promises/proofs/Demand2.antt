@@ -46,6 +46,7 @@ use Rattle.writing.specs.declared.WriteAnswer.{WriteAnswer}
 use Rattle.writing.specs.declared.WriteAnswer.the-variants.{Written, Refused as NotWritten}
 use Rattle.reading.proofs.RoundTrip.{read-of-written, records-equal, nets-equal}
 use Rattle.reading.proofs.Outcomes.{read-writes}
+use Rattle.reading.proofs.Longest.{longest-record}
 use Rattle.writing.proofs.Outcomes.{was-written}
 use Rattle.on_segments.specs.Reading.{readAnswer, listRead, Reads}
 use Rattle.drawn.specs.Says.{saysOf as drawnSays}
@@ -280,5 +281,6 @@ demand-2 =
       margin-read = record-margin-as-stated;
       ratio = scaled-as-stated;
       records = records-both-ways;
+      longest = longest-record;
       drawn = drawn-as-stated;
     }

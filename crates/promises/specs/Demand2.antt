@@ -34,6 +34,7 @@ use Rattle.margins.specs.declared.MarginAnswer.{MarginAnswer}
 use Rattle.numbers.specs.Numbers.{Bytes, got}
 use Rattle.numbers.specs.Putting.{onto}
 use Rattle.reading.specs.Answers.{saysBy}
+use Rattle.reading.specs.Longest.{LongestRecord}
 use Rattle.writing.specs.Answers.{result, saysWritten, Writes}
 use Rattle.reading.specs.declared.ReadAnswer.{ReadAnswer}
 use Rattle.writing.specs.declared.WriteAnswer.{WriteAnswer}
@@ -207,4 +208,6 @@ pub record Demand2 : Type 0 where
   pub ratio : (h : Head) (k : ℕ) (segments : List Segment) → 1 ≤ k → k * h .p ≤ mostRatio → k * h .q ≤ mostRatio
       → ScaledAsStated h k segments
   pub records : RecordsBothWays
+  -- "The longest good record has 14,346 bytes."
+  pub longest : LongestRecord
   pub drawn : DrawnAsStated

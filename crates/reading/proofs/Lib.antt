@@ -7,6 +7,7 @@ pub mod Parsed
 pub mod RoundTrip
 pub mod Kept
 pub mod Lengths
+pub mod Longest
 pub mod Ruled
 pub mod Outcomes
 pub mod Worked

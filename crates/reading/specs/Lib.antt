@@ -3,4 +3,5 @@
 pub mod Reading
 pub mod Answers
 pub mod Rules
+pub mod Longest
 pub mod Worked
