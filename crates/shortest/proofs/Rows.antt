@@ -1,19 +1,31 @@
 -- Laws of the index (specs/Rows), and of relaxing along a row. Rests on `hanging`'s `Lists`.
 use mathlib.Core.Path.{_≡_, refl, sym, ap, _∙_}
 use mathlib.Core.Bool.{Bool, true}
-use mathlib.Core.List.{List}
+use mathlib.Core.List.{List, _++_}
 use mathlib.Core.Logic.{_⊎_, inl, inr, ⊎-elim}
 use Prim.Native.Nat.{ℕ, _+_, _-_, _*_, _/_, _<_, _≤_}
 use native.Mathlib.Nat.{le-refl, le-trans, le-of-eq, not-suc-le-zero}
 use native.Mathlib.Omega.{arith}
-use lib.ListN.{length, set}
+use native.Mathlib.Numerals.{add-one}
+use lib.ListN.{length, set, drop, replicate, length-append, length-replicate, length-drop, getD-replicate, List·getD-append}
+use lib.Seq.{getD-append-add, getD-drop}
+use borrow.Author.Tests.{lt-ltb, le-ltb}
 use Rattle.hanging.specs.Lists.{flag, note, Filled}
 use Rattle.shortest.specs.Notes.{Joins, Offered, Relaxed}
-use Rattle.shortest.specs.Rows.{On, Index, Pushed}
+use Rattle.shortest.specs.Rows.{On, Index, Rows, pushOf, rowsOf}
 use Rattle.hanging.proofs.Lists.{same?, below?, last?, stored}
+use Rattle.hanging.proofs.Filling.{filled-one}
+
+-- code c was put before the row of x, if x is a post
+pub record Pushed (posts x c : ℕ) (head next head′ next′ : List ℕ) : Type 0 where
+  pub top : x < posts → note head′ x ≡ c
+  pub tops : (v : ℕ) → v < posts → (v ≡ x → ⊥) → note head′ v ≡ note head v
+  pub link : x < posts → note next′ c ≡ note head x
+  pub no-link : posts ≤ x → note next′ c ≡ 0
+  pub links : (k : ℕ) → (k ≡ c → ⊥) → note next′ k ≡ note next k
 
 -- the stores of a push
-pub pushed : {posts x c : ℕ} (h n : List ℕ) → x < posts → x < length h → c < length n → Pushed posts x c h n (set h x c) (set n c (note h x))
+pushed : {posts x c : ℕ} (h n : List ℕ) → x < posts → x < length h → c < length n → Pushed posts x c h n (set h x c) (set n c (note h x))
 pushed {posts} {x} {c} h n l i j =
     record {
       top = λ _. ⊎-elim (λ p. p .1) (λ p. absurd (p .0 refl)) (stored h x x c 0 i);
@@ -24,7 +36,7 @@ pushed {posts} {x} {c} h n l i j =
     }
 
 -- the store where x is no post
-pub pushed-not : {posts x c : ℕ} {h : List ℕ} (n : List ℕ) → posts ≤ x → c < length n → Pushed posts x c h n h (set n c 0)
+pushed-not : {posts x c : ℕ} {h : List ℕ} (n : List ℕ) → posts ≤ x → c < length n → Pushed posts x c h n h (set n c 0)
 pushed-not {posts} {x} {c} n l j =
     record {
       top = λ k. absurd (omega arith);
@@ -33,6 +45,40 @@ pushed-not {posts} {x} {c} n l j =
       no-link = λ _. ⊎-elim (λ p. p .1) (λ p. absurd (p .0 refl)) (stored n c c 0 0 j);
       links = λ k ne. ⊎-elim (λ p. absurd (ne (p .0))) (λ p. p .1) (stored n c k 0 0 j);
     }
+
+-- they are those of `pushOf`
+pub push-post : (posts x c : ℕ) (r : Rows) → x < posts → (set (r .0) x c, set (r .1) c (note (r .0) x)) ≡ pushOf posts x c r
+unfolding pushOf
+push-post posts x c r h = rw (lt-ltb x posts h)
+
+pub push-none : (posts x c : ℕ) (r : Rows) → posts ≤ x → (r .0, set (r .1) c 0) ≡ pushOf posts x c r
+unfolding pushOf
+push-none posts x c r h = rw (le-ltb x posts h)
+
+push-pushed : {posts x c : ℕ} {h n h′ n′ : List ℕ} → posts ≤ length h → c < length n → (h′, n′) ≡ pushOf posts x c (h, n) → Pushed posts x c h n h′ n′
+push-pushed {posts} {x} {c} {h} {n} i j e = ⊎-elim
+    (λ l. let s = e ∙ sym (push-post posts x c (h, n) l) in rw (ap (λ r. r .0) s, ap (λ r. r .1) s) (pushed h n l (omega arith) j))
+    (λ l. let s = e ∙ sym (push-none posts x c (h, n) l) in rw (ap (λ r. r .0) s, ap (λ r. r .1) s) (pushed-not n l j))
+    (below? x posts)
+
+-- one segment more
+rows-more : (posts : ℕ) (a b : List ℕ) (i : ℕ) (r : Rows) → pushOf posts (note b i) (2 * i + 2) (pushOf posts (note a i) (2 * i + 1) (rowsOf posts a b i r)) ≡ rowsOf posts a b (i + 1) r
+unfolding rowsOf
+rows-more posts a b i r = rw (add-one i)
+
+-- a list whose first entries were filled with 0
+pub filled-rows : (posts : ℕ) (l h : List ℕ) → posts ≤ length l → length h ≡ length l → Filled posts 0 (note l) (note h) → h ≡ replicate posts 0 ++ drop posts l
+filled-rows posts l h few same f =
+    filled-one {l = h} {l′ = replicate posts 0 ++ drop posts l} (same ∙ simp (length-append, length-replicate, length-drop) (omega arith)) f (record { gone = front; rest = behind })
+  where
+    front : (v : ℕ) → v < posts → note (replicate posts 0 ++ drop posts l) v ≡ 0
+    front v k = List·getD-append (replicate posts 0) (drop posts l) 0 v (omega (arith, length-replicate {A = ℕ} posts 0)) ∙ getD-replicate posts v 0 0 k
+
+    behind : (v : ℕ) → posts ≤ v → note (replicate posts 0 ++ drop posts l) v ≡ note l v
+    behind v k =
+        let e : v ≡ posts + (v - posts) = omega arith in
+        let z = getD-append-add (replicate posts 0) (drop posts l) (v - posts) 0 ∙ getD-drop posts l (v - posts) 0 in
+        rw (length-replicate {A = ℕ} posts 0, ← e) at z
 
 pub on-pos : {next : ℕ → ℕ} {k c : ℕ} → On next k c → 0 < c
 on-pos (On.first h) = h
@@ -99,22 +145,36 @@ index-none z = record { tops = λ u h. le-of-eq (z u h); falls = λ c h l. absur
 -- the index of the first i segments, at the head of its loop; h₀ and n₀ are the lists where the loop begins
 pub record Indexing (posts : ℕ) (a b h₀ n₀ h n : List ℕ) (i : ℕ) : Type 0 where
   pub up-to : i ≤ length a
+  pub few-posts : posts ≤ length h₀
+  pub few-codes : 2 * length a < length n₀
   pub heads : length h ≡ length h₀
   pub nexts : length n ≡ length n₀
   pub index : Index (note a) (note b) posts (2 * i) i i (note h) (note n)
+  pub rows : (h, n) ≡ rowsOf posts a b i (h₀, n₀)
 
-pub indexing-none : {posts : ℕ} {a b h n : List ℕ} {l : ℕ → ℕ} → Filled posts 0 l (note h) → Indexing posts a b h n h n 0
-indexing-none f = record { up-to = omega arith; heads = refl; nexts = refl; index = index-none (f .gone) }
+pub indexing-none : {posts : ℕ} {a b h n : List ℕ} {l : ℕ → ℕ} → posts ≤ length h → 2 * length a < length n → Filled posts 0 l (note h) → Indexing posts a b h n h n 0
+unfolding rowsOf
+indexing-none few codes f =
+    record { up-to = omega arith; few-posts = few; few-codes = codes; heads = refl; nexts = refl; index = index-none (f .gone); rows = refl }
 
 pub indexing-more : {posts : ℕ} {a b h₀ n₀ h n h′ n′ h″ n″ : List ℕ} {i x y : ℕ} → Indexing posts a b h₀ n₀ h n i → i < length a
-    → x ≡ note a i → Pushed posts x (2 * i + 1) h n h′ n′ → length h′ ≡ length h → length n′ ≡ length n
-    → y ≡ note b i → Pushed posts y (2 * i + 2) h′ n′ h″ n″ → length h″ ≡ length h′ → length n″ ≡ length n′ → Indexing posts a b h₀ n₀ h″ n″ (i + 1)
-indexing-more r less ex p eh en ey q eh′ en′ =
+    → x ≡ note a i → (h′, n′) ≡ pushOf posts x (2 * i + 1) (h, n) → length h′ ≡ length h → length n′ ≡ length n
+    → y ≡ note b i → (h″, n″) ≡ pushOf posts y (2 * i + 2) (h′, n′) → length h″ ≡ length h′ → length n″ ≡ length n′ → Indexing posts a b h₀ n₀ h″ n″ (i + 1)
+indexing-more {posts} {a} {b} {h₀} {n₀} {h} {n} {h′} {n′} {h″} {n″} {i} r less ex p eh en ey q eh′ en′ =
+    let fh = r .few-posts in
+    let fn = r .few-codes in
+    let gh = r .heads in
+    let gn = r .nexts in
+    let first : (h′, n′) ≡ pushOf posts (note a i) (2 * i + 1) (h, n) = rw ex at p in
+    let second : (h″, n″) ≡ pushOf posts (note b i) (2 * i + 2) (h′, n′) = rw ey at q in
     record {
       up-to = omega arith;
-      heads = eh′ ∙ eh ∙ r .heads;
-      nexts = en′ ∙ en ∙ r .nexts;
-      index = index-b (index-a (r .index) (rw ex at p)) (rw ey at q);
+      few-posts = fh;
+      few-codes = fn;
+      heads = eh′ ∙ eh ∙ gh;
+      nexts = en′ ∙ en ∙ gn;
+      index = index-b (index-a (r .index) (push-pushed (omega arith) (omega arith) first)) (push-pushed (omega arith) (omega arith) second);
+      rows = second ∙ ap (pushOf posts (note b i) (2 * i + 2)) (first ∙ ap (pushOf posts (note a i) (2 * i + 1)) (r .rows)) ∙ rows-more posts a b i (h₀, n₀);
     }
 
 -- relaxing along u's row, at code c: what is not offered yet is still on it

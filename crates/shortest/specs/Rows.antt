@@ -1,9 +1,11 @@
 -- The index of a net: the ends of its segments in rows, a row for each post, made once for any number of searches.
 -- Code 2 * i + 1 is the first end of segment i, and 2 * i + 2 the second; 0 ends a row. Rests on `hanging`'s lists.
-use mathlib.Core.Path.{_≡_}
-use mathlib.Core.List.{List}
+use mathlib.Core.Bool.{cond}
+use mathlib.Core.List.{List, _++_}
 use Prim.Native.Nat.{ℕ, _+_, _*_, _<_, _≤_}
-use lib.ListN.{length}
+use lib.Dec.{ltb}
+use lib.ListN.{length, set, drop, replicate}
+use Rattle.net.specs.Words.{each}
 use Rattle.hanging.specs.Lists.{note}
 
 -- code k is on the row from c
@@ -23,10 +25,18 @@ pub record Index (a b : ℕ → ℕ) (posts t na nb : ℕ) (head next : ℕ → 
 abbrev pub IndexOf : ℕ → List ℕ → List ℕ → List ℕ → List ℕ → Type 0
 IndexOf posts a b head next = Index (note a) (note b) posts (2 * length a) (length a) (length a) (note head) (note next)
 
--- code c was put before the row of x, if x is a post
-pub record Pushed (posts x c : ℕ) (head next head′ next′ : List ℕ) : Type 0 where
-  pub top : x < posts → note head′ x ≡ c
-  pub tops : (v : ℕ) → v < posts → (v ≡ x → ⊥) → note head′ v ≡ note head v
-  pub link : x < posts → note next′ c ≡ note head x
-  pub no-link : posts ≤ x → note next′ c ≡ 0
-  pub links : (k : ℕ) → (k ≡ c → ⊥) → note next′ k ≡ note next k
+-- MADE, code by code: for each post the first code of its row, for each code the next one
+abbrev pub Rows : Type 0
+Rows = List ℕ × List ℕ
+
+-- code c goes before the row of x, if x is a post
+unfoldable pub pushOf : ℕ → ℕ → ℕ → Rows → Rows
+pushOf posts x c r = cond (ltb x posts) (set (r .0) x c, set (r .1) c (note (r .0) x)) (r .0, set (r .1) c 0)
+
+-- the ends of the first m segments, each segment's first end before its second
+unfoldable pub rowsOf : ℕ → List ℕ → List ℕ → ℕ → Rows → Rows
+rowsOf posts a b m = each m (λ i r. pushOf posts (note b i) (2 * i + 2) (pushOf posts (note a i) (2 * i + 1) r))
+
+-- rows without a code: entries beyond the post count, and the next codes, are as they were
+abbrev pub noRows : ℕ → List ℕ → List ℕ → Rows
+noRows posts tops links = (replicate posts 0 ++ drop posts tops, links)

@@ -14,7 +14,7 @@ ghost use Rattle.net.specs.Trees.{noneYet, least, leastLengths, shortest};
 ghost use Rattle.hanging.specs.Lists.{flag, note, Ends, Sides};
 ghost use Rattle.shortest.specs.Notes.{Cleared, Lowered, Offered, Relaxed, LowestApart};
 ghost use Rattle.shortest.specs.Ladder.{Lesser, Ladder, OpenPosts, Written, NearestOn};
-ghost use Rattle.shortest.specs.Rows.{IndexOf, Pushed};
+ghost use Rattle.shortest.specs.Rows.{IndexOf, pushOf, rowsOf, noRows};
 
 // "none yet", which is larger than any length.
 pub const NONE_YET: u64 = net::NONE_YET;
@@ -138,8 +138,8 @@ fn offer(
 // Code c goes before the row of x, if x is a post.
 fn push(posts: usize, x: usize, c: usize, first: &mut [u16], next: &mut [u16])
     requires { ⌜ (posts ≤ length (now first)) × (c < length (now next)) × (c < 65536) ⌝ }
-    ensures { λ _. ⌜ Pushed posts x c (now (first .entry)) (now (next .entry))
-        (now (first .exit)) (now (next .exit)) ⌝ }
+    ensures { λ _. ⌜ (now (first .exit), now (next .exit))
+        ≡ pushOf posts x c (now (first .entry), now (next .entry)) ⌝ }
 {
     if x < posts {
         next[c] = first[x];
@@ -156,6 +156,9 @@ pub fn index(posts: usize, a: &[u16], b: &[u16], first: &mut [u16], next: &mut [
         × (length (now a) ≤ mostSegments) ⌝ }
     ensures indexed { λ _. ⌜ IndexOf posts (now (a .entry)) (now (b .entry))
         (now (first .exit)) (now (next .exit)) ⌝ }
+    ensures rows { λ _. ⌜ (now (first .exit), now (next .exit))
+        ≡ rowsOf posts (now (a .entry)) (now (b .entry)) (length (now (a .entry)))
+        (noRows posts (now (first .entry)) (now (next .entry))) ⌝ }
 {
     hanging::fill(posts, 0, first);
     let mut i = 0;

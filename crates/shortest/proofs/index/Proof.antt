@@ -4,7 +4,7 @@ use Prim.Native.Nat.{_-_}
 use native.Mathlib.Omega.{arith}
 use lib.ListN.{length}
 use borrow.Author.Needs.{needs}
-use Rattle.shortest.proofs.Rows.{Indexing, indexing-none, indexing-more}
+use Rattle.shortest.proofs.Rows.{Indexing, indexing-none, indexing-more, filled-rows}
 use Rattle.shortest.proofs.index.Statement.{statement}
 use Rattle.shortest.proofs.index.Tie as tie
 
@@ -18,7 +18,10 @@ fill-requires : tie.Need-fill-requires Inv-loop μ-loop
 fill-requires c κs = omega arith
 
 loop-holds : tie.Need-loop-holds Inv-loop μ-loop
-loop-holds c = indexing-none (c .before .before .fill .ensures)
+loop-holds c =
+    let p = c .before .before .before .before .before .before .before .before .pre in
+    let f = c .before .before .fill in
+    indexing-none (omega (arith, p .0, f .kept .1 .1 .0)) (omega (arith, p .1)) (f .ensures)
 
 at16-requires : tie.Need-at16-requires Inv-loop μ-loop
 at16-requires c κs = search needs
@@ -76,7 +79,15 @@ same-length-2 : tie.Need-same-length-2 Inv-loop μ-loop
 same-length-2 c = c .before .loop .inv .nexts
 
 returns : tie.Need-returns Inv-loop μ-loop
-returns c = let e : c .before .loop .i ≡ length (c .before .before .before .before .before .before .before .before .before .before .args .a .now) = omega (arith, c .loop-test .left, c .before .loop .inv .up-to) in let r = c .before .loop .inv .index in rw e at r
+returns c =
+    let s = c .before .before .before .before .before .before .before .before .before .before in
+    let l = c .before .loop .inv in
+    let f = c .before .before .before .before .fill in
+    let e : c .before .loop .i ≡ length (s .args .a .now) = omega (arith, c .loop-test .left, l .up-to) in
+    let h = filled-rows _ (s .args .first .now) (f .last .1 .1 .0) (s .pre .0) (f .kept .1 .1 .0) (f .ensures) in
+    let r = l .index in
+    let w = l .rows in
+    (rw e at r, rw (e, h) at w)
 
 pub index-spec : {M : Type 1} → statement M
 index-spec =

@@ -1,7 +1,7 @@
 -- `shortest::push` meets its contract: by the test: the stores of a push, or the end of a row.
 use native.Mathlib.Omega.{arith}
 use borrow.Author.Needs.{needs}
-use Rattle.shortest.proofs.Rows.{pushed, pushed-not}
+use Rattle.shortest.proofs.Rows.{push-post, push-none}
 use Rattle.shortest.proofs.push.Statement.{statement}
 use Rattle.shortest.proofs.push.Tie as tie
 
@@ -39,13 +39,13 @@ same-length-2 : tie.Need-same-length-2
 same-length-2 c = search needs
 
 returns : tie.Need-returns
-returns c = pushed (c .before .before .args .first .now) (c .before .before .args .next .now) (omega arith) (omega arith) (omega arith)
+returns c = push-post _ _ _ (c .before .before .args .first .now, c .before .before .args .next .now) (omega arith)
 
 same-length-3 : tie.Need-same-length-3
 same-length-3 c = search needs
 
 returns-2 : tie.Need-returns-2
-returns-2 c = pushed-not (c .before .args .next .now) (omega arith) (omega arith)
+returns-2 c = push-none _ _ _ (c .before .args .first .now, c .before .args .next .now) (omega arith)
 
 pub push-spec : {M : Type 1} → statement M
 push-spec =

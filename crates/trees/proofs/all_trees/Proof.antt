@@ -32,7 +32,7 @@ slice-aggregate-trees-by-2 c = search needs
 trees-by-requires : tie.Need-trees-by-requires
 trees-by-requires c κs =
     let p = c .before .before .before .before .before .before .before .before .before .before .before .before .before .before .before .before .before .before .before .pre in
-    (p .0, (index-at (sym (c .before .before .before .before .before .before .before .before .before .before .before .index-of .ensures)) (c .before .before .before .before .before .before .before .before .index .ensures), p .1))
+    (p .0, (index-at (sym (c .before .before .before .before .before .before .before .before .before .before .before .index-of .ensures)) (c .before .before .before .before .before .before .before .before .index .ensures .0), p .1))
 
 same-length : tie.Need-same-length
 same-length c = omega arith
