@@ -126,7 +126,7 @@ module _ (ok : ℕ → Bool) (n : Net) (k : ℕ) (once : 1 ≤ k) where
 
     measured-scaled : (t : Tree) → measured ok (scaledNet k n) t ≡ measured ok n t
     unfolding measured
-    measured-scaled t = rw (tree-scaled t)
+    measured-scaled t = simp (tree-scaled t, walk-scaled)
 
     -- BUILDING answers alike
     pub build-scaled : (m : ℕ) (lent : Lent) → buildOf ok (scaledNet k n) m lent ≡ buildOf ok n m lent
