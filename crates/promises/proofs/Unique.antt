@@ -1,59 +1,59 @@
--- Two outcomes of an entry are equal: the laws of the crates, in one place.
-use mathlib.Core.Path.{sym, _∙_}
+-- Two outcomes of an entry are equal: the laws of the crates, over the entries' own contracts.
+use mathlib.Core.Path.{_≡_, sym, _∙_}
 use Prim.Native.Nat.{ℕ}
-use lib.ListN.{length}
-use Rattle.net.specs.Net.{Net}
-use Rattle.checks.proofs.Unique.{check-head-one, check-numbers-one, check-segment-one, check-one}
-use Rattle.crossings.specs.Lists.{netOn}
+use base.Logic.{ent}
+use contract.Monad.{fact, factI, fact-use, conj, conjL, conjR}
+use borrow.Fn.World.{World}
 use Rattle.building.proofs.Unique.{build-one}
-use Rattle.margins.proofs.Unique.{margin-one}
-use Rattle.numbers.proofs.Outcomes as numbers
 use Rattle.reading.proofs.Outcomes.{read-unique}
 use Rattle.writing.proofs.Outcomes.{write-unique}
-use Rattle.on_segments.proofs.Unique.{read-one}
 use Rattle.on_records.proofs.Unique as on-records
 use Rattle.c_calls.proofs.Unique as c-calls
-use Rattle.drawn.proofs.Rules.{same-outcome}
-use Rattle.promises.specs.Unique.{OneBuilding, OneMargin, OneWriting, Unique}
+use Rattle.promises.specs.Unique.{Unique}
 
-one-building : (n : Net) (m : ℕ) → OneBuilding n m
-one-building n m l s w a b l′ l₂ s′ s₂ w′ w₂ p q = let e = build-one n m l s w p q in (e .answers, e .lightest, e .shortest, e .between)
+-- what follows from two plain facts holds where both hold
+both : (w : World) {φ ψ χ : Type 0} → (φ → ψ → χ) → ent (w .𝓤) (conj (w .𝓤) (fact (w .𝓤) φ) (fact (w .𝓤) ψ)) (fact (w .𝓤) χ)
+both w {φ} {ψ} {χ} f =
+    fact-use (w .𝓤) φ (conjL (w .𝓤) (fact (w .𝓤) φ) (fact (w .𝓤) ψ)) (λ p.
+    fact-use (w .𝓤) ψ (conjR (w .𝓤) (fact (w .𝓤) φ) (fact (w .𝓤) ψ)) (λ q.
+    factI (w .𝓤) χ (conj (w .𝓤) (fact (w .𝓤) φ) (fact (w .𝓤) ψ)) (f p q)))
 
-one-margin : (n : Net) (m : ℕ) → OneMargin n m
-one-margin n m t post a b = margin-one n m t post
-
-one-writing : (n : Net) (m : ℕ) → OneWriting n m
-one-writing n m = write-unique n m
+-- an answer that is said by an equation, with nothing lent
+same : {X Y : Type 0} {r q z : X} {e : Y} → r ≡ z → q ≡ z → (r ≡ q) × (e ≡ e)
+same {e = e} p k = (p ∙ sym k, λ i. e)
 
 pub unique : Unique
 unique =
     record {
-      build = λ h segments. one-building (netOn h segments) (length segments);
-      margin = λ h segments. one-margin (netOn h segments) (length segments);
-      write = λ h segments. one-writing (netOn h segments) (length segments);
-      read = read-one;
-      drawn = λ run. same-outcome run _ _;
-      plan = λ bytes l s w p q. (let e = on-records.plan-one bytes l s w p q in (e .answers, e .lightest, e .shortest, e .between));
-      rewrite = on-records.rewrite-one;
-      margin-read = on-records.margin-one;
-      check-read = on-records.check-one;
-      c-check = c-calls.check-one;
-      c-plan = λ bytes l s w d p q. (let e = c-calls.plan-one bytes l s w d p q in (e .numbers, e .lightest, e .shortest, e .between, e .summary));
-      c-rewrite = c-calls.rewrite-one;
-      c-margin = c-calls.margin-one;
-      c-drawn = c-calls.drawn-one;
-      build-lists = one-building;
-      margin-lists = one-margin;
-      write-lists = one-writing;
-      read-lists = λ bytes x y z. read-unique bytes x y z _ _ _ _ _ _ _ _;
-      check-record = λ bytes p q. p ∙ sym q;
-      number-at = λ bytes at. numbers.number-at-unique bytes at _ _;
-      put-number = λ n room. numbers.put-number-unique n room _ _;
-      reader-new = λ bytes. numbers.new-unique bytes _ _;
-      reader-number = λ r. numbers.number-unique r _ _;
-      reader-moved = λ r at. numbers.moved-unique r at _ _;
-      check-head = check-head-one;
-      check-numbers = check-numbers-one;
-      check-segment = check-segment-one;
-      check = check-one;
+      build = λ w κs x g r q e o. both w (λ p k. let z = build-one _ _ _ _ _ p k in (z .answers, λ i. (tt, (tt, (z .lightest i, (z .shortest i, (z .between i, tt)))))));
+      margin = λ w κs x g r q e o. both w same;
+      write = λ w κs x g r q e o. both w (λ p k. let z = write-unique _ _ _ _ _ _ _ p k in (z .0, λ i. (tt, (tt, (z .1 i, tt)))));
+      read = λ w κs x g r q e o. both w (λ p k. (p .0 ∙ sym (k .0), λ i. (tt, ((p .1 ∙ sym (k .1)) i, tt))));
+      drawn = λ w κs x g r q e o. both w same;
+      plan = λ w κs x g r q e o. both w (λ p k. let z = on-records.plan-one _ _ _ _ p k in (z .answers, λ i. (tt, (z .lightest i, (z .shortest i, (z .between i, tt))))));
+      rewrite = λ w κs x g r q e o. both w (λ p k. let z = on-records.rewrite-one _ _ p k in (z .0, λ i. (tt, (z .1 i, tt))));
+      record-margin = λ w κs x g r q e o. both w same;
+      record-check = λ w κs x g r q e o. both w same;
+      c-check = λ w κs x g r q e o. both w same;
+      c-plan = λ w κs x g r q e o. both w (λ p k. let z = c-calls.plan-one _ _ _ _ _ p k in (z .numbers, λ i. (tt, (z .lightest i, (z .shortest i, (z .between i, (z .summary i, tt)))))));
+      c-rewrite = λ w κs x g r q e o. both w (λ p k. let z = c-calls.rewrite-one _ _ p k in (z .0, λ i. (tt, (z .1 i, tt))));
+      c-margin = λ w κs x g r q e o. both w (λ p k. let z = c-calls.margin-one _ _ _ _ p k in (z .0, λ i. (tt, (tt, (tt, (z .1 i, tt))))));
+      c-drawn = λ w κs x g r q e o. both w same;
+      build-lists = λ w κs x g r q e o. both w (λ p k. let z = build-one _ _ _ _ _ p k in (z .answers, λ i. (tt, (tt, (tt, (tt, (z .lightest i, (z .shortest i, (z .between i, tt)))))))));
+      margin-lists = λ w κs x g r q e o. both w same;
+      write-lists = λ w κs x g r q e o. both w (λ p k. let z = write-unique _ _ _ _ _ _ _ p k in (z .0, λ i. (tt, (tt, (tt, (tt, (z .1 i, tt)))))));
+      read-lists = λ w κs x g r q e o. both w (λ p k. let z = read-unique _ _ _ _ _ _ _ _ _ _ _ _ p k in (z .0, λ i. (tt, (z .1 i, (z .2 i, (z .3 i, tt))))));
+      check-record = λ w κs x g r q e o. both w same;
+      number-at = λ w κs x g r q e o. both w same;
+      number-size = λ w κs x g r q e o. both w (λ p k. same (p .0) (k .0));
+      put-number = λ w κs x g r q e o. both w (λ p k. p ∙ sym k);
+      reader-new = λ w κs x g r q e o. both w same;
+      reader-number = λ w κs x g r q e o. both w same;
+      reader-moved = λ w κs x g r q e o. both w same;
+      reader-behind = λ w κs x g r q e o. both w same;
+      check-head = λ w κs x g r q e o. both w same;
+      check-numbers = λ w κs x g r q e o. both w same;
+      check-segment = λ w κs x g r q e o. both w same;
+      check = λ w κs x g r q e o. both w same;
+      segment-count = λ w κs x g r q e o. both w same;
     }

@@ -1,4 +1,7 @@
 -- What is promised: the three demands, one file each, and the one table of worked examples.
+pub mod Contracts
+pub mod Entries
+pub mod Tied
 pub mod Demand1
 pub mod Demand2
 pub mod Demand3
