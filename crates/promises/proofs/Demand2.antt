@@ -5,6 +5,7 @@ use mathlib.Core.List.{List, _++_}
 use Prim.Native.Nat.{ℕ, _*_, _≤_}
 use native.Mathlib.Nat.{le-refl, mul-le-mul-right}
 use native.Mathlib.Omega.{arith}
+use contract.Monad.{fact-mono}
 use lib.IntN.{ℤ}
 use lib.ListN.{length, take, drop}
 use lib.Seq.{take-at, drop-at, take-append-seam}
@@ -53,7 +54,9 @@ use Rattle.drawn.specs.Says.{saysOf as drawnSays}
 use Rattle.drawn.specs.declared.Answer.the-variants.{Length}
 use Rattle.drawn.proofs.Rules.{same-says}
 use Rattle.drawn.proofs.Lengths.{straight-length, length-straight, corner-length, length-corner}
-use Rattle.promises.specs.Demand2.{ByTheRules, TreesAsStated, Measures, Holds, BuiltAsStated, PlannedAsStated, MarginAsStated, ScaledAsStated, RecordsBothWays, DrawnAsStated, Demand2}
+use Rattle.printing.proofs.Printing.{answer-lines}
+use Rattle.printing.proofs.Whole.{whole-text}
+use Rattle.promises.specs.Demand2.{ProgramAsStated, ByTheRules, TreesAsStated, Measures, Holds, BuiltAsStated, PlannedAsStated, MarginAsStated, ScaledAsStated, RecordsBothWays, DrawnAsStated, Demand2}
 use Rattle.promises.proofs.Taken.{taken-sound, taken-joined, answers, after, planned-net}
 
 -- THE TREES
@@ -271,6 +274,15 @@ drawn-as-stated =
       corner = λ x y {a} e k. (λ f. corner-length x y k (sym e ∙ same-says a (Length k) f), λ f. ap drawnSays (e ∙ length-corner x y k f));
     }
 
+-- THE PROGRAM
+pub program-as-stated : ProgramAsStated
+program-as-stated =
+    record {
+      printed-is = λ w κs x g r e. fact-mono (w .𝓤) _ _ (λ p el es ew. sym (answer-lines _ _ _ el es ew _ r p));
+      whole-input = λ w κs x g r e. fact-mono (w .𝓤) _ _ (λ p bytes all k. whole-text bytes all p k);
+      reads-enough = λ w κs x g r e. fact-mono (w .𝓤) _ _ (λ p. p .enough);
+    }
+
 -- EVERY ENTRY
 pub demand-2 : Demand2
 demand-2 =
@@ -283,4 +295,5 @@ demand-2 =
       records = records-both-ways;
       longest = longest-record;
       drawn = drawn-as-stated;
+      program = program-as-stated;
     }

@@ -20,6 +20,7 @@ tied =
       c-rewrite = record { asks-nothing = λ w κs x g. id⊢ (w .𝓤) _; says = λ w κs x g r e. id⊢ (w .𝓤) _ };
       c-margin = record { asks-nothing = λ w κs x g. id⊢ (w .𝓤) _; says = λ w κs x g r e. id⊢ (w .𝓤) _ };
       c-drawn = record { asks-nothing = λ w κs x g. id⊢ (w .𝓤) _; says = λ w κs x g r e. id⊢ (w .𝓤) _ };
+      print = record { asks-nothing = λ w κs x g. id⊢ (w .𝓤) _; says = λ w κs x g r e. id⊢ (w .𝓤) _ };
       build-lists = record { asks-nothing = λ w κs x g. id⊢ (w .𝓤) _; says = λ w κs x g r e. id⊢ (w .𝓤) _ };
       margin-lists = record { asks-nothing = λ w κs x g. id⊢ (w .𝓤) _; says = λ w κs x g r e. id⊢ (w .𝓤) _ };
       write-lists = record { asks-nothing = λ w κs x g. id⊢ (w .𝓤) _; says = λ w κs x g r e. id⊢ (w .𝓤) _ };

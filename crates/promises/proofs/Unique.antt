@@ -39,6 +39,7 @@ unique =
       c-rewrite = λ w κs x g r q e o. both w (λ p k. let z = c-calls.rewrite-one _ _ p k in (z .0, λ i. (tt, (z .1 i, tt))));
       c-margin = λ w κs x g r q e o. both w (λ p k. let z = c-calls.margin-one _ _ _ _ p k in (z .0, λ i. (tt, (tt, (tt, (z .1 i, tt))))));
       c-drawn = λ w κs x g r q e o. both w same;
+      print = λ w κs x g r q e o. both w (λ p k. (p .puts .behind ∙ sym (k .puts .behind), λ i. (tt, (tt, ((p .puts .holds ∙ sym (k .puts .holds)) i, tt)))));
       build-lists = λ w κs x g r q e o. both w (λ p k. let z = build-one _ _ _ _ _ p k in (z .answers, λ i. (tt, (tt, (tt, (tt, (z .lightest i, (z .shortest i, (z .between i, tt)))))))));
       margin-lists = λ w κs x g r q e o. both w same;
       write-lists = λ w κs x g r q e o. both w (λ p k. let z = write-unique _ _ _ _ _ _ _ p k in (z .0, λ i. (tt, (tt, (tt, (tt, (z .1 i, tt)))))));

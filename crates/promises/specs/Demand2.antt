@@ -20,7 +20,8 @@ use Rattle.net.specs.declared.Measured.{Measured}
 use Rattle.net.specs.declared.Segment.{Segment}
 use Rattle.net.specs.declared.Tree.{Tree}
 use Rattle.net.specs.declared.Tree.the-variants.{Shortest, Between}
-use Rattle.net.specs.Net.{Net, mostRatio, scaled, every, lengthAt, setLength}
+use denote.Ref.{now}
+use Rattle.net.specs.Net.{Net, mostRatio, scaled, every, lengthAt, setLength, mostPosts}
 use Rattle.net.specs.Trees.{at, IsLeast, HangsBy, ExactlyBelonging, Climb, IsTree, entry, usedBy, pathIn}
 use Rattle.net.specs.Walk.{Notes, Given}
 use Rattle.net.specs.WalkRules.{WalkGives}
@@ -42,11 +43,15 @@ use Rattle.on_segments.specs.Reading.{Reads}
 use Rattle.on_records.specs.Asked.{recordRead, Plans, marginRead}
 use Rattle.on_records.specs.Says.{Plan, saysPlanned}
 use Rattle.on_records.specs.declared.PlanAnswer.{PlanAnswer}
+use Rattle.reading.specs.Reading.{enoughBytes}
+use Rattle.printing.specs.Printed.{printed, answerText}
 use Rattle.drawn.specs.Drawn.{drawnOf}
 use Rattle.drawn.specs.Says.{sixteenths, saysOf as drawnSays}
 use Rattle.drawn.specs.Rules.{Long, BothLong}
 use Rattle.drawn.specs.declared.Run.the-variants.{Straight, Corner}
 use Rattle.drawn.specs.declared.Answer.{Answer as Drawn}
+use Rattle.promises.specs.Contracts.{Says}
+use Rattle.promises.specs.Entries as entry
 
 -- THE TREES of a net that building takes
 -- what its walk is given: "Walk the lightest tree", the shortest tree and D for laying, and one ratio for all posts
@@ -189,8 +194,21 @@ pub record DrawnAsStated : Type 0 where
   pub corner : (x y : Float) {a : Drawn} → a ≡ drawnOf (Corner x y) → (k : ℕ) → (drawnSays a ≡ sixteenths k)
       ↔ BothLong x y k
 
+-- THE PROGRAM: "reads one record from standard input and prints the trees, or the one line of a refusal"
+pub record ProgramAsStated : Type 2 where
+  -- what is printed for a record is the text of its plan's answer, with the lists that planning leaves where each has an
+  -- entry for as many posts as a net may have
+  pub printed-is : Says entry.plan (λ κs (bytes, (l, (s, (w, _)))) a (_, (l′, (s′, (w′, _)))).
+      length (now l) ≡ mostPosts → length (now s) ≡ mostPosts → length (now w) ≡ mostPosts
+      → printed (now bytes) ≡ answerText a l′ s′ w′)
+  -- "The program reads at most 14,351, .. so its answer is the reader's answer on the whole input": where what was read
+  -- is as much of the input as there is room for, the text is what is printed for the whole input
+  pub whole-input : Says entry.print (λ κs (input, (n, _)) r (_, (_, (out, _))). (bytes : List ℕ) → Bytes bytes
+      → take n (now input) ≡ take (length (now input)) bytes → take r out ≡ printed bytes)
+  pub reads-enough : Says entry.print (λ κs (input, _) r _. length (now input) ≡ enoughBytes)
+
 -- EVERY ENTRY
-pub record Demand2 : Type 0 where
+pub record Demand2 : Type 2 where
   pub build : (h : Head) (segments : List Segment) (l s w : List ℕ) {a : Answer} {l′ s′ w′ : List ℕ} {x y z : Measured}
       {k : ℕ}
       → Leaves (netOn h segments) (length segments) l s w a l′ s′ w′ → saysOf a ≡ built x y z k
@@ -211,3 +229,4 @@ pub record Demand2 : Type 0 where
   -- "The longest good record has 14,346 bytes."
   pub longest : LongestRecord
   pub drawn : DrawnAsStated
+  pub program : ProgramAsStated

@@ -15,6 +15,7 @@ use Rattle.c_calls.proofs.drover_plan as of-c-plan
 use Rattle.c_calls.proofs.drover_rewrite as of-c-rewrite
 use Rattle.c_calls.proofs.drover_margin as of-c-margin
 use Rattle.c_calls.proofs.drover_drawn as of-c-drawn
+use Rattle.printing.proofs.print as of-print
 use Rattle.building.proofs.build as of-build-lists
 use Rattle.margins.proofs.margin as of-margin-lists
 use Rattle.writing.proofs.write as of-write-lists
@@ -78,6 +79,10 @@ c-margin = record { ended = of-c-margin.ended; clauses = λ M. of-c-margin.claus
 
 abbrev pub c-drawn : Function
 c-drawn = record { ended = of-c-drawn.ended; clauses = λ M. of-c-drawn.clauses }
+
+-- The program's text
+abbrev pub print : Function
+print = record { ended = of-print.ended; clauses = λ M. of-print.clauses }
 
 -- Over plain lists
 abbrev pub build-lists : Function

@@ -22,6 +22,7 @@ use Rattle.reading.specs.Answers.{ReadsLists, checkRead}
 use Rattle.writing.specs.Answers.{Writes}
 use Rattle.on_segments.specs.Reading.{Reads}
 use Rattle.on_records.specs.Asked.{recordRead, Plans, Rewrites, marginRead}
+use Rattle.printing.specs.Printed.{Prints}
 use Rattle.c_numbers.specs.Named.{runNamed}
 use Rattle.c_calls.specs.Numbers.{checkNumber, drawnNumber}
 use Rattle.c_calls.specs.Left.{PlanLeaves, RewriteLeaves, MarginLeaves}
@@ -62,6 +63,9 @@ pub record Tied : Type 2 where
       MarginLeaves (now bytes) tree post (now d) a d′)
   pub c-drawn : Keeps entry.c-drawn (λ κs (corner, (first, (second, _))) a _.
       a ≡ drawnNumber (drawnOf (runNamed corner first second)))
+  -- the program's text
+  pub print : Keeps entry.print (λ κs (input, (n, (out, _))) r (_, (_, (out′, _))).
+      Prints (now input) n (now out) r out′)
   -- over plain lists
   pub build-lists : Keeps entry.build-lists
       (λ κs (h, (a, (b, (lengths, (l, (s, (w, _))))))) r (_, (_, (_, (_, (l′, (s′, (w′, _))))))).

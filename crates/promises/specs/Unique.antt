@@ -25,6 +25,8 @@ pub record Unique : Type 2 where
   pub c-rewrite : OneOutcome entry.c-rewrite
   pub c-margin : OneOutcome entry.c-margin
   pub c-drawn : OneOutcome entry.c-drawn
+  -- of the program's text
+  pub print : OneOutcome entry.print
   -- over plain lists
   pub build-lists : OneOutcome entry.build-lists
   pub margin-lists : OneOutcome entry.margin-lists

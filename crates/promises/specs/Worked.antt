@@ -1,8 +1,10 @@
 -- The one table of document 01's statements marked (P), with its other worked examples. proofs/Worked proves it as one
--- theorem. The rows stand beside their definitions: net/specs/Worked, reading/specs/Worked and drawn/specs/Worked.
+-- theorem. The rows stand beside their definitions: net/specs/Worked, reading/specs/Worked, drawn/specs/Worked
+-- and printing/specs/Worked.
 use Rattle.net.specs.Worked.{NetsWorked}
 use Rattle.reading.specs.Worked.{RecordsWorked}
 use Rattle.drawn.specs.Worked.{DrawnWorked}
+use Rattle.printing.specs.Worked.{ProgramWorked}
 
 pub record Worked : Type 0 where
   -- NETS A, B AND C, the refusals, one post and two posts: a row for each statement
@@ -11,3 +13,5 @@ pub record Worked : Type 0 where
   pub records : RecordsWorked
   -- DRAWN RUNS: a row for each statement
   pub drawn : DrawnWorked
+  -- RUNS OF THE PROGRAM, from the bytes that are read to the bytes that are printed: a row for each statement
+  pub program : ProgramWorked

@@ -3,7 +3,7 @@
 use mathlib.Core.Path.{_≡_}
 use mathlib.Core.List.{List, [], _∷_, _++_}
 use Rattle.reading.specs.Worked.{bytesA}
-use Rattle.program.specs.Printed.{printed}
+use Rattle.printing.specs.Printed.{printed}
 
 pub record ProgramWorked : Type 0 where
   -- "Input 4 0 1 1 5 0 1 4 1 2 4 2 3 4 0 3 5 0 2 6 (bytes), net A, gives exactly": net 4 5 0 1/1, mst 12 12 0 1 2, spt

@@ -1,10 +1,10 @@
 -- `text` meets its contract: what planning answers and leaves, put into the room as lines, is what is printed. Assumes nothing.
 use mathlib.Core.Path.{refl}
 use native.Mathlib.Omega.{arith}
-use Rattle.program.proofs.Printing.{planned-lines, refused-lines, put-same}
+use Rattle.printing.proofs.Printing.{planned-lines, refused-lines, put-same}
 use borrow.Author.Needs.{needs}
-use Rattle.program.proofs.text.Statement.{statement}
-use Rattle.program.proofs.text.Tie as tie
+use Rattle.printing.proofs.text.Statement.{statement}
+use Rattle.printing.proofs.text.Tie as tie
 
 slice-aggregate-plan : tie.Need-slice-aggregate-plan
 slice-aggregate-plan c = search needs

@@ -9,8 +9,8 @@ use Rattle.numbers.specs.Numbers.{groupsAt, number}
 use Rattle.reading.specs.Reading.{hold, roomLines, heading, segment, segments, ended, restRead, netRead}
 use Rattle.on_records.specs.Asked.{recordRead}
 use Rattle.lines.specs.Text.{spelled, decimal, spaced, ratioText, netLine, entryText, entriesText, treeLine, laidLine, refusedLine, programText}
-use Rattle.program.specs.Printed.{printed}
-use Rattle.program.specs.Worked.{ProgramWorked}
+use Rattle.printing.specs.Printed.{printed}
+use Rattle.printing.specs.Worked.{ProgramWorked}
 
 pub program-worked : ProgramWorked
 unfolding first headLines segmentLines presentLines allSegmentLines netLines lentLines joinedLines before better round

@@ -24,7 +24,7 @@ use Rattle.on_records.specs.declared.PlanAnswer.the-variants.{Planned, Refused}
 use Rattle.lines.specs.Text.{refusedLine, programText}
 use Rattle.lines.specs.Putting.{Put}
 use Rattle.lines.proofs.Meaning.{text-front}
-use Rattle.program.specs.Printed.{lists, linesFor, printed}
+use Rattle.printing.specs.Printed.{lists, linesFor, printed, answerText}
 
 -- a text put into the room is any text that equals it
 pub put-same : {t u : List ℕ} {at : ℕ} {l x : List ℕ} {r : ℕ} → Put t at l x r → t ≡ u → Put u at l x r
@@ -109,3 +109,8 @@ module _ (l s w : List ℕ) (el : length l ≡ mostPosts) (es : length s ≡ mos
       → refusedLine (q .number) (q .place) ≡ printed bytes
   unfolding printed
   refused-lines bytes p e = refused-read (recordRead bytes) (sym e ∙ p .answer ∙ ap (planOf (recordRead bytes)) lent-is)
+
+  -- EITHER ANSWER: its text is what is printed for the record
+  pub answer-lines : (bytes : List ℕ) (r : PlanAnswer) {l′ s′ w′ : List ℕ} → Plans bytes l s w r l′ s′ w′ → answerText r l′ s′ w′ ≡ printed bytes
+  answer-lines bytes (Planned h m x y z k) p = planned-lines bytes p refl .1
+  answer-lines bytes (Refused q) p = refused-lines bytes p refl
