@@ -2,3 +2,4 @@
 pub mod Table
 pub mod Answered
 pub mod Unique
+pub mod Worked

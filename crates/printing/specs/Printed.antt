@@ -30,8 +30,8 @@ linesFor (refused r) = refusedLine (r .number) (r .place)
 unfoldable pub printed : List ℕ → List ℕ
 printed bytes = linesFor (recordRead bytes)
 
--- the text of a plan's answer, with the three lists that planning leaves. proofs/Printing: it is what is printed for the
--- record that was planned
+-- the text of a plan's answer, with the three lists that planning leaves: what is printed for the record that was
+-- planned (proofs/Printing)
 abbrev pub answerText : PlanAnswer → List ℕ → List ℕ → List ℕ → List ℕ
 answerText (Planned h m x y z k) l s w = programText h m (built x y z k) l s w
 answerText (Refused r) l s w = refusedLine (r .number) (r .place)

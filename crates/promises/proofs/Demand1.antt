@@ -1,66 +1,78 @@
--- Demand 1 of every entry, from its contract.
+-- Demand 1: the rules, and every entry from its own contract.
 use mathlib.Core.Path.{_≡_, refl, sym, ap, _∙_}
-use mathlib.Core.List.{List}
+use mathlib.Core.List.{List, []}
 use mathlib.Core.Option.{Option, none, some}
 use Prim.Native.Nat.{ℕ}
 use native.Mathlib.Omega.{arith}
+use contract.Monad.{fact-mono}
+use lib.IntN.{ℤ}
 use lib.ListN.{length}
-use Rattle.net.specs.Net.{Net, every}
+use Rattle.net.specs.Net.{Net, every, segmentsOf}
 use Rattle.net.specs.Refusals.{saysOf as checkSays}
 use Rattle.net.specs.Building.{buildRefusal, buildAnswer, buildOf, listAfter, afterBuild, marginRefusal, marginAnswer, marginOf}
 use Rattle.net.specs.Building as B
 use Rattle.net.specs.declared.Segment.{Segment}
 use Rattle.net.specs.declared.Refusal.{Refusal}
 use Rattle.net.specs.declared.Tree.{Tree}
+use Rattle.net.specs.declared.Checked.{Checked}
 use Rattle.net.specs.declared.Tree.the-variants.{Lightest, Shortest, Between}
 use Rattle.net.proofs.Refusals.{build-answers, build-only, nine-exactly, not-joined-exactly, margin-answers, margin-only}
-use Rattle.crossings.specs.Lists.{netOn}
-use Rattle.building.specs.Answers.{answerOf, saysOf, lentOf}
+use Rattle.building.specs.Answers.{answerOf, saysOf, lentOf, Leaves}
+use Rattle.building.specs.declared.Answer.{Answer}
 use Rattle.margins.specs.Answers.{marginAnswerOf, marginSaysOf}
 use Rattle.margins.specs.declared.MarginAnswer.{MarginAnswer}
-use Rattle.margins.specs.declared.MarginAnswer.the-variants.{Refused as Unmeasured}
+use Rattle.margins.specs.declared.MarginAnswer.the-variants.{Margin, Refused as Unmeasured′}
 use Rattle.building.proofs.Meaning.{refused-exactly}
 use Rattle.building.proofs.Unique.{answer-says}
 use Rattle.margins.proofs.Unique.{margin-answer-says}
 use Rattle.numbers.specs.Numbers.{Got, got, refused}
 use Rattle.reading.specs.Reading.{netRead}
 use Rattle.writing.specs.Writing.{netWritten, writeRefusal, afterWriting, roomAfter}
-use Rattle.reading.specs.Answers.{saysBy, checkRead}
+use Rattle.reading.specs.Answers.{saysBy, checkRead, ReadsLists}
+use Rattle.reading.specs.Answers.{listRead as numbersRead}
+use Rattle.reading.specs.declared.ReadAnswer.{ReadAnswer}
 use Rattle.writing.specs.Answers.{refusal-of, writeAnswerBy, writeAnswerOf, saysWritten, Writes}
 use Rattle.writing.specs.declared.WriteAnswer.{WriteAnswer}
+use Rattle.writing.specs.declared.WriteAnswer.the-variants.{Written, Refused as Unput}
 use Rattle.reading.proofs.Ruled.{read-answers, read-only}
 use Rattle.writing.proofs.RuledWriting.{write-answers, write-only}
-use Rattle.on_segments.specs.Reading.{readAnswer, listRead}
+use Rattle.on_segments.specs.Reading.{readAnswer, listRead, Reads}
 use Rattle.on_records.specs.Asked.{recordRead, plannedWith, planOf, treeList, Plans, rewriteOf, roomOf, Rewrites, marginSaid, marginRead}
 use Rattle.on_records.specs.Says.{saysPlanned}
 use Rattle.on_records.specs.declared.PlanAnswer.{PlanAnswer}
+use Rattle.on_records.specs.declared.PlanAnswer.the-variants.{Planned, Refused as Unbuilt}
+use Rattle.c_numbers.specs.Named.{packed, marked, treeNamed}
+use Rattle.c_numbers.specs.Lists.{front}
+use Rattle.c_numbers.proofs.Fronts.{front-none}
+use Rattle.c_calls.specs.Numbers.{checkNumber, planNumber, writeNumber, marginNumber, drawnNumber}
+use Rattle.c_calls.specs.Left.{summaryOf, marginsOf, PlanLeaves, RewriteLeaves, MarginLeaves}
+use Rattle.c_calls.proofs.Unique.{packed-same, marked-same, no-length-marked}
 use Rattle.drawn.specs.declared.Run.{Run}
-use Rattle.drawn.proofs.Rules.{outcome-answers, outcome-only}
-use Rattle.promises.specs.Demand1.{BuildRefuses, MarginRefuses, ReadRefuses, WriteRefuses, OnRecord, by-reading, by-net, PlanRefuses, RewriteRefuses, RecordMarginRefuses, CheckRefuses, DrawnRefuses, Demand1}
+use Rattle.drawn.specs.Drawn.{drawnOf}
+use Rattle.drawn.specs.Says.{sixteenths, refused as undrawn, saysOf as drawnSays}
+use Rattle.drawn.specs.Rules.{Answers}
+use Rattle.drawn.specs.declared.Answer.{Answer as Drawn}
+use Rattle.drawn.specs.declared.Answer.the-variants.{Length, Refused as Undrawn}
+use Rattle.drawn.proofs.Rules.{drawn-only, outcome-answers, outcome-only}
+use Rattle.promises.specs.Demand1.{Refuses, RefusesInNumber, BuildRefuses, MarginRefuses, ReadRefuses, WriteRefuses, CheckRefuses, OnRecord, by-reading, by-net, Unplanned, Unwritten, Unmeasured, Demand1}
 
 module _ (n : Net) (m : ℕ) (l s w : List ℕ) where
   kept : (r : Refusal) → buildRefusal every n m (lentOf l s w) ≡ some r → (t : Tree) (before now : List ℕ) → now ≡ afterBuild every n m (lentOf l s w) t before → now ≡ before
   unfolding afterBuild listAfter
   kept r e t before now k = k ∙ ap (λ x. listAfter every n x t before) e
 
-  pub build-refuses : BuildRefuses n m l s w
-  build-refuses =
+  pub build-refuses : {a : Answer} {l′ s′ w′ : List ℕ} → Leaves n m l s w a l′ s′ w′ → BuildRefuses n m l s w a l′ s′ w′
+  build-refuses {a} k =
       record {
-        by-the-rules = build-answers every m n (lentOf l s w);
-        no-other = λ r. build-only every m n (lentOf l s w);
-        refuses = λ k r e. (
+        refuses = λ r e. (
           ap saysOf (refused-exactly n m (lentOf l s w) (k .answer) r .1 e),
-          kept r e _ _ _ (k .lightest),
-          kept r e _ _ _ (k .shortest),
-          kept r e _ _ _ (k .between),
+          (kept r e _ _ _ (k .lightest), kept r e _ _ _ (k .shortest), kept r e _ _ _ (k .between)),
         );
-        only-then = λ {a} k r e. refused-exactly n m (lentOf l s w) (k .answer) r .0 (sym (answer-says a) ∙ ap answerOf e);
-        nine = nine-exactly every m n (lentOf l s w);
-        not-joined = not-joined-exactly every m n (lentOf l s w);
+        only-then = λ r e. refused-exactly n m (lentOf l s w) (k .answer) r .0 (sym (answer-says a) ∙ ap answerOf e);
       }
 
 module _ (n : Net) (m : ℕ) (t : Tree) (post : ℕ) where
-  margin-held : {r : Refusal} (o : Option Refusal) → marginAnswerOf (marginAnswer every n o t post) ≡ Unmeasured r → o ≡ some r
+  margin-held : {r : Refusal} (o : Option Refusal) → marginAnswerOf (marginAnswer every n o t post) ≡ Unmeasured′ r → o ≡ some r
   unfolding marginAnswer
   margin-held none e = absurd (let k : _≡_ {A = ℕ} 0 1 = cc in omega arith)
   margin-held (some s) e = cc
@@ -75,28 +87,35 @@ module _ (n : Net) (m : ℕ) (t : Tree) (post : ℕ) where
   unfolding marginOf
   margin-refused {a} k r e = margin-held (marginRefusal every n m post) (sym k ∙ sym (margin-answer-says a) ∙ ap marginAnswerOf e)
 
-  pub margin-refuses : MarginRefuses n m t post
-  margin-refuses =
-      record {
-        by-the-rules = margin-answers every m n post;
-        no-other = λ r. margin-only every m n post;
-        refuses = refused-margin;
-        only-then = margin-refused;
-      }
+  pub margin-refuses : {a : MarginAnswer} → a ≡ marginAnswerOf (marginOf every n m t post) → MarginRefuses n m post a
+  margin-refuses k = record { refuses = λ r e. (refused-margin k r e, tt); only-then = margin-refused k }
 
-module _ (bytes : List ℕ) (l : List Segment) where
-  read-held : {r : Refusal} (g : Got Net) (ss : List Segment) → saysBy (readAnswer g) ss ≡ refusal-of r → g ≡ refused r
-  read-held (got n next) ss e = absurd (let k : _≡_ {A = ℕ} 0 1 = cc in omega arith)
-  read-held (refused s) ss e = cc
+read-held : {r : Refusal} (g : Got Net) (ss : List Segment) → saysBy (readAnswer g) ss ≡ refusal-of r → g ≡ refused r
+read-held (got n next) ss e = absurd (let k : _≡_ {A = ℕ} 0 1 = cc in omega arith)
+read-held (refused s) ss e = cc
 
-  pub read-refuses : ReadRefuses bytes l
-  read-refuses =
-      record {
-        by-the-rules = λ all. read-answers bytes all (length l);
-        no-other = λ g. read-only bytes;
-        refuses = λ {a} {l′} k r e. (ap (λ b. saysBy b l′) (k .0 ∙ ap readAnswer e), k .1 ∙ ap (λ g. listRead g l) e);
-        only-then = λ {a} {l′} k r e. read-held (netRead bytes (length l) 0) l′ (ap (λ b. saysBy b l′) (sym (k .0)) ∙ e);
-      }
+-- what reading answers is its refusal exactly where it refuses
+module _ (bytes : List ℕ) (room : ℕ) {a : ReadAnswer} (is : a ≡ readAnswer (netRead bytes room 0)) (ss : List Segment) where
+  read-says : (r : Refusal) → netRead bytes room 0 ≡ refused r → saysBy a ss ≡ refusal-of r
+  read-says r e = ap (λ b. saysBy b ss) (is ∙ ap readAnswer e)
+
+  read-only-then : (r : Refusal) → saysBy a ss ≡ refusal-of r → netRead bytes room 0 ≡ refused r
+  read-only-then r e = read-held (netRead bytes room 0) ss (ap (λ b. saysBy b ss) (sym is) ∙ e)
+
+pub read-refuses : (bytes : List ℕ) (l : List Segment) {l′ : List Segment} {a : ReadAnswer} → Reads bytes l a l′ → ReadRefuses bytes (length l) a l′ (l′ ≡ l)
+read-refuses bytes l {l′} k =
+    record { refuses = λ r e. (read-says bytes (length l) (k .0) l′ r e, k .1 ∙ ap (λ g. listRead g l) e); only-then = read-only-then bytes (length l) (k .0) l′ }
+
+pub read-lists-refuses : {bytes x y z x′ y′ z′ : List ℕ} {a : ReadAnswer} → ReadsLists bytes x y z a x′ y′ z′
+    → ReadRefuses bytes (length (segmentsOf x y z)) a (segmentsOf x′ y′ z′) ((x′ ≡ x) × (y′ ≡ y) × (z′ ≡ z))
+read-lists-refuses {bytes} {x} {y} {z} {x′} {y′} {z′} k =
+    record {
+      refuses = λ r e. (
+        read-says bytes (length (segmentsOf x y z)) (k .answers) (segmentsOf x′ y′ z′) r e,
+        (k .a-is ∙ ap (λ g. numbersRead (λ v. v .a) g x) e, k .b-is ∙ ap (λ g. numbersRead (λ v. v .b) g y) e, k .lengths-are ∙ ap (λ g. numbersRead (λ v. v .length) g z) e),
+      );
+      only-then = read-only-then bytes (length (segmentsOf x y z)) (k .answers) (segmentsOf x′ y′ z′);
+    }
 
 module _ (n : Net) (m : ℕ) (room : List ℕ) where
   write-held : {r : Refusal} (o : Option Refusal) → saysWritten (writeAnswerBy o (length (netWritten n))) ≡ refusal-of r → o ≡ some r
@@ -111,14 +130,8 @@ module _ (n : Net) (m : ℕ) (room : List ℕ) where
   unfolding writeAnswerOf
   write-refused k r e = write-held (writeRefusal n m (length room)) (ap saysWritten (sym (k .answers)) ∙ e)
 
-  pub write-refuses : WriteRefuses n m room
-  write-refuses =
-      record {
-        by-the-rules = write-answers m n (length room);
-        no-other = λ r. write-only m n (length room);
-        refuses = refused-write;
-        only-then = write-refused;
-      }
+  pub write-refuses : {a : WriteAnswer} {x : List ℕ} → Writes n m room a x → WriteRefuses n m room a x
+  write-refuses k = record { refuses = refused-write k; only-then = write-refused k }
 
 module _ (bytes l s w : List ℕ) where
   unread-plan : {a : PlanAnswer} {l′ s′ w′ : List ℕ} → Plans bytes l s w a l′ s′ w′
@@ -156,15 +169,20 @@ module _ (bytes l s w : List ℕ) where
   plan-held (got n next) i e = by-net n next i (built-held n (buildRefusal every n (length (n .segments)) (lentOf l s w)) e)
   plan-held {r} (refused x) i e = by-reading (i ∙ (let k : _≡_ {A = Got Net} (refused x) (refused r) = cc in k))
 
-  pub plan-refuses : PlanRefuses bytes l s w
-  plan-refuses = record { refuses = refused-plan; only-then = λ k r e. plan-held (recordRead bytes) refl (ap saysPlanned (sym (k .answer)) ∙ e) }
+  pub plan-refuses : {a : PlanAnswer} {l′ s′ w′ : List ℕ} → Plans bytes l s w a l′ s′ w′
+      → Refuses (Unplanned bytes (lentOf l s w)) (λ r. saysPlanned a ≡ refusal-of r) ((l′ ≡ l) × (s′ ≡ s) × (w′ ≡ w))
+  plan-refuses k =
+      record {
+        refuses = λ r u. (let z = refused-plan k r u in (z .0, (z .1, z .2, z .3)));
+        only-then = λ r e. plan-held (recordRead bytes) refl (ap saysPlanned (sym (k .answer)) ∙ e);
+      }
 
 module _ (bytes room : List ℕ) where
   refused-rewrite : {a : WriteAnswer} {x : List ℕ} → Rewrites bytes room a x → (r : Refusal)
       → OnRecord bytes (λ n. writeRefusal n (length (n .segments)) (length room)) r → (saysWritten a ≡ refusal-of r) × (x ≡ room)
   refused-rewrite k r (by-reading e) = (ap saysWritten (k .answers ∙ ap (λ g. rewriteOf g (length room)) e), k .leaves ∙ ap (λ g. roomOf g room) e)
   refused-rewrite k r (by-net n next i e) =
-      write-refuses n (length (n .segments)) room .refuses
+      refused-write n (length (n .segments)) room
       (record { answers = k .answers ∙ ap (λ g. rewriteOf g (length room)) i; leaves = k .leaves ∙ ap (λ g. roomOf g room) i })
       r
       e
@@ -175,8 +193,8 @@ module _ (bytes room : List ℕ) where
   rewrite-held (got n next) i e = by-net n next i (write-held n (length (n .segments)) room (writeRefusal n (length (n .segments)) (length room)) e)
   rewrite-held {r} (refused x) i e = by-reading (i ∙ (let k : _≡_ {A = Got Net} (refused x) (refused r) = cc in k))
 
-  pub rewrite-refuses : RewriteRefuses bytes room
-  rewrite-refuses = record { refuses = refused-rewrite; only-then = λ k r e. rewrite-held (recordRead bytes) refl (ap saysWritten (sym (k .answers)) ∙ e) }
+  pub rewrite-refuses : {a : WriteAnswer} {x : List ℕ} → Rewrites bytes room a x → Refuses (Unwritten bytes (length room)) (λ r. saysWritten a ≡ refusal-of r) (x ≡ room)
+  rewrite-refuses k = record { refuses = refused-rewrite k; only-then = λ r e. rewrite-held (recordRead bytes) refl (ap saysWritten (sym (k .answers)) ∙ e) }
 
 module _ (bytes : List ℕ) (t : Tree) (post : ℕ) where
   refused-record-margin : {a : MarginAnswer} → a ≡ marginRead bytes t post → (r : Refusal) → OnRecord bytes (λ n. marginRefusal every n (length (n .segments)) post) r
@@ -189,34 +207,132 @@ module _ (bytes : List ℕ) (t : Tree) (post : ℕ) where
   record-margin-held {r} (got n next) i e = by-net n next i (margin-refused n (length (n .segments)) t post refl r e)
   record-margin-held {r} (refused x) i e = by-reading (i ∙ (let k : _≡_ {A = Got Net} (refused x) (refused r) = cc in k))
 
-  pub record-margin-refuses : RecordMarginRefuses bytes t post
-  record-margin-refuses = record { refuses = refused-record-margin; only-then = λ k r e. record-margin-held (recordRead bytes) refl (ap marginSaysOf (sym k) ∙ e) }
+  pub record-margin-refuses : {a : MarginAnswer} → a ≡ marginRead bytes t post → Refuses (Unmeasured bytes post) (λ r. marginSaysOf a ≡ B.MarginAnswer.refused r) Unit
+  record-margin-refuses k =
+      record { refuses = λ r u. (refused-record-margin k r u, tt); only-then = λ r e. record-margin-held (recordRead bytes) refl (ap marginSaysOf (sym k) ∙ e) }
 
 check-held : {r : Refusal} (g : Got Net) → checkSays (checkRead g) ≡ some r → g ≡ refused r
 check-held (got n next) e = absurd (let k : _≡_ {A = ℕ} 0 1 = cc in omega arith)
 check-held (refused x) e = cc
 
-pub check-refuses : (bytes : List ℕ) → CheckRefuses bytes
-check-refuses bytes =
+pub check-refuses : (g : Got Net) {a : Checked} → a ≡ checkRead g → CheckRefuses g a
+check-refuses g k = record { refuses = λ r e. (ap checkSays (k ∙ ap checkRead e), tt); only-then = λ r e. check-held g (ap checkSays (sym k) ∙ e) }
+
+-- FOR C. An answer's number, where it says a refusal and where it says none
+check-zero : (g : Got Net) → ((r : Refusal) → g ≡ refused r → ⊥) → checkNumber (checkRead g) ≡ 0
+check-zero (got n next) h = refl
+check-zero (refused r) h = absurd (h r refl)
+
+plan-number : (a : PlanAnswer) (r : Refusal) → saysPlanned a ≡ refusal-of r → (planNumber a ≡ packed r) × (summaryOf a ≡ [])
+plan-number (Planned h m x y z k) r e = absurd (let q : _≡_ {A = ℕ} 0 1 = cc in omega arith)
+plan-number (Unbuilt q) r e = (ap packed (let i : q ≡ r = cc in i), refl)
+
+plan-zero : (a : PlanAnswer) → ((r : Refusal) → saysPlanned a ≡ refusal-of r → ⊥) → planNumber a ≡ 0
+plan-zero (Planned h m x y z k) f = refl
+plan-zero (Unbuilt q) f = absurd (f q refl)
+
+write-number : (a : WriteAnswer) (r : Refusal) → saysWritten a ≡ refusal-of r → writeNumber a ≡ marked r
+write-number (Written k) r e = absurd (let q : _≡_ {A = ℕ} 0 1 = cc in omega arith)
+write-number (Unput q) r e = ap marked (let i : q ≡ r = cc in i)
+
+write-size : (o : Option Refusal) (size : ℕ) → ((r : Refusal) → o ≡ some r → ⊥) → writeNumber (writeAnswerBy o size) ≡ size
+write-size none size h = refl
+write-size (some r) size h = absurd (h r refl)
+
+margin-number : (a : MarginAnswer) (r : Refusal) → marginSaysOf a ≡ B.MarginAnswer.refused r → (marginNumber a ≡ packed r) × (marginsOf a ≡ [])
+margin-number (Margin z) r e = absurd (let q : _≡_ {A = ℕ} 0 1 = cc in omega arith)
+margin-number (Unmeasured′ q) r e = (ap packed (let i : q ≡ r = cc in i), refl)
+
+margin-zero : (a : MarginAnswer) → ((r : Refusal) → marginSaysOf a ≡ B.MarginAnswer.refused r → ⊥) → marginNumber a ≡ 0
+margin-zero (Margin z) f = refl
+margin-zero (Unmeasured′ q) f = absurd (f q refl)
+
+drawn-number : (a : Drawn) (r : Refusal) → drawnSays a ≡ undrawn (r .number) (r .place) → drawnNumber a ≡ marked r
+drawn-number (Length k) r e = absurd (let q : _≡_ {A = ℕ} 0 1 = cc in omega arith)
+drawn-number (Undrawn q) r e = let i : q .number ≡ r .number = cc in let j : q .place ≡ r .place = cc in rw (i, j)
+
+drawn-length : (a : Drawn) (k : ℕ) → drawnSays a ≡ sixteenths k → drawnNumber a ≡ k
+drawn-length (Length j) k e = cc
+drawn-length (Undrawn q) k e = absurd (let z : _≡_ {A = ℕ} 0 1 = cc in omega arith)
+
+pub c-check-refuses : (bytes : List ℕ) {a : ℕ} → a ≡ checkNumber (checkRead (recordRead bytes)) → RefusesInNumber (λ r. recordRead bytes ≡ refused r) (λ r. a ≡ packed r) Unit (a ≡ 0)
+c-check-refuses bytes k = record { refuses = λ r e. (k ∙ ap (λ g. checkNumber (checkRead g)) e, tt); otherwise = λ h. k ∙ check-zero (recordRead bytes) h }
+
+pub c-plan-refuses : (bytes l s w d : List ℕ) {a : ℕ} {l′ s′ w′ d′ : List ℕ} → PlanLeaves bytes l s w d a l′ s′ w′ d′
+    → RefusesInNumber (Unplanned bytes (lentOf l s w)) (λ r. a ≡ packed r) ((l′ ≡ l) × (s′ ≡ s) × (w′ ≡ w) × (d′ ≡ d)) (a ≡ 0)
+c-plan-refuses bytes l s w d {l′ = l′} {s′ = s′} {w′ = w′} k =
+    let p : Plans bytes l s w (planOf (recordRead bytes) (lentOf l s w)) l′ s′ w′ = record { answer = refl; lightest = k .lightest; shortest = k .shortest; between = k .between } in
     record {
-      refuses = λ k r e. ap checkSays (k ∙ ap checkRead e);
-      only-then = λ k r e. check-held (recordRead bytes) (ap checkSays (sym k) ∙ e);
+      refuses = λ r u. (
+          let z = refused-plan bytes l s w p r u in let v = plan-number (planOf (recordRead bytes) (lentOf l s w)) r (z .0) in
+          (k .number ∙ v .0, (z .1, z .2, z .3, k .summary ∙ ap (λ t. front t d) (v .1) ∙ front-none d))
+          );
+      otherwise = λ h. k .number ∙ plan-zero (planOf (recordRead bytes) (lentOf l s w)) (λ r e. h r (plan-held bytes l s w (recordRead bytes) refl e));
     }
 
-pub drawn-refuses : (run : Run) → DrawnRefuses run
-drawn-refuses run = record { by-the-rules = λ e. outcome-answers run _ e; no-other = λ e s. outcome-only run _ s e }
+pub c-rewrite-refuses : (bytes room : List ℕ) {a : ℕ} {x : List ℕ} → RewriteLeaves bytes room a x
+    → RefusesInNumber (Unwritten bytes (length room)) (λ r. a ≡ marked r) (x ≡ room) ((n : Net) (next : ℕ) → recordRead bytes ≡ got n next → a ≡ length (netWritten n))
+unfolding writeAnswerOf
+c-rewrite-refuses bytes room {x = x} k =
+    let p : Rewrites bytes room (rewriteOf (recordRead bytes) (length room)) x = record { answers = refl; leaves = k .room-after } in
+    record {
+      refuses = λ r u. (let z = refused-rewrite bytes room p r u in (k .number ∙ write-number (rewriteOf (recordRead bytes) (length room)) r (z .0), z .1));
+      otherwise = λ h n next i. (
+          k .number ∙ ap (λ g. writeNumber (rewriteOf g (length room))) i ∙ write-size (writeRefusal n (length (n .segments)) (length room)) (length (netWritten n)) (λ r e. h r (by-net n next i e))
+          );
+    }
+
+pub c-margin-refuses : (bytes : List ℕ) (tree post : ℕ) (d : List ℤ) {a : ℕ} {d′ : List ℤ} → MarginLeaves bytes tree post d a d′
+    → RefusesInNumber (Unmeasured bytes post) (λ r. a ≡ packed r) (d′ ≡ d) (a ≡ 0)
+c-margin-refuses bytes tree post d k =
+    record {
+      refuses = λ r u. (
+          let v = margin-number (marginRead bytes (treeNamed tree) post) r (refused-record-margin bytes (treeNamed tree) post refl r u) in
+          (k .number ∙ v .0, k .list ∙ ap (λ t. front t d) (v .1) ∙ front-none d)
+          );
+      otherwise = λ h. k .number ∙ margin-zero (marginRead bytes (treeNamed tree) post) (λ r e. h r (record-margin-held bytes (treeNamed tree) post (recordRead bytes) refl e));
+    }
+
+pub c-drawn-refuses : (run : Run) {a : ℕ} → a ≡ drawnNumber (drawnOf run)
+    → RefusesInNumber (λ r. Answers run (undrawn (r .number) (r .place))) (λ r. a ≡ marked r) Unit ((k : ℕ) → Answers run (sixteenths k) → a ≡ k)
+c-drawn-refuses run e =
+    record { refuses = λ r u. (e ∙ drawn-number (drawnOf run) r (drawn-only u), tt); otherwise = λ h k u. e ∙ drawn-length (drawnOf run) k (drawn-only u) }
 
 -- EVERY ENTRY
 pub demand-1 : Demand1
 demand-1 =
     record {
-      build = λ h segments. build-refuses (netOn h segments) (length segments);
-      margin = λ h segments. margin-refuses (netOn h segments) (length segments);
-      read = read-refuses;
-      write = λ h segments. write-refuses (netOn h segments) (length segments);
-      plan = plan-refuses;
-      rewrite = rewrite-refuses;
-      margin-read = record-margin-refuses;
-      check-read = check-refuses;
-      drawn = drawn-refuses;
+      build-rules = λ n m lent.
+          record {
+            by-the-rules = build-answers every m n lent;
+            no-other = λ r. build-only every m n lent;
+            nine = nine-exactly every m n lent;
+            not-joined = not-joined-exactly every m n lent;
+          };
+      margin-rules = λ n m post. record { by-the-rules = margin-answers every m n post; no-other = λ r. margin-only every m n post };
+      read-rules = λ bytes room. record { by-the-rules = λ all. read-answers bytes all room; no-other = λ g. read-only bytes };
+      write-rules = λ n m room. record { by-the-rules = write-answers m n room; no-other = λ r. write-only m n room };
+      build = λ w κs x g r e. fact-mono (w .𝓤) _ _ (build-refuses _ _ _ _ _);
+      margin = λ w κs x g r e. fact-mono (w .𝓤) _ _ (margin-refuses _ _ _ _);
+      read = λ w κs x g r e. fact-mono (w .𝓤) _ _ (read-refuses _ _);
+      write = λ w κs x g r e. fact-mono (w .𝓤) _ _ (write-refuses _ _ _);
+      build-lists = λ w κs x g r e. fact-mono (w .𝓤) _ _ (build-refuses _ _ _ _ _);
+      margin-lists = λ w κs x g r e. fact-mono (w .𝓤) _ _ (margin-refuses _ _ _ _);
+      read-lists = λ w κs x g r e. fact-mono (w .𝓤) _ _ read-lists-refuses;
+      write-lists = λ w κs x g r e. fact-mono (w .𝓤) _ _ (write-refuses _ _ _);
+      check-record = λ w κs x g r e. fact-mono (w .𝓤) _ _ (check-refuses _);
+      plan = λ w κs x g r e. fact-mono (w .𝓤) _ _ (plan-refuses _ _ _ _);
+      rewrite = λ w κs x g r e. fact-mono (w .𝓤) _ _ (rewrite-refuses _ _);
+      record-margin = λ w κs x g r e. fact-mono (w .𝓤) _ _ (record-margin-refuses _ _ _);
+      record-check = λ w κs x g r e. fact-mono (w .𝓤) _ _ (check-refuses _);
+      c-check = λ w κs x g r e. fact-mono (w .𝓤) _ _ (c-check-refuses _);
+      c-plan = λ w κs x g r e. fact-mono (w .𝓤) _ _ (c-plan-refuses _ _ _ _ _);
+      c-rewrite = λ w κs x g r e. fact-mono (w .𝓤) _ _ (c-rewrite-refuses _ _);
+      c-margin = λ w κs x g r e. fact-mono (w .𝓤) _ _ (c-margin-refuses _ _ _ _);
+      c-drawn = λ w κs x g r e. fact-mono (w .𝓤) _ _ (c-drawn-refuses _);
+      packed-apart = packed-same;
+      marked-apart = marked-same;
+      no-length = no-length-marked;
+      drawn = λ w κs x g r e. fact-mono (w .𝓤) _ _ (outcome-answers (x .0) r);
+      drawn-no-other = λ w κs x g r e. fact-mono (w .𝓤) _ _ (λ k s. outcome-only (x .0) r s k);
     }

@@ -1,151 +1,182 @@
 -- Demand 1: "No input makes it fail. Every entry refuses a bad net, record, length or room by itself, with the number
 -- and place of document 01; a refusal changes nothing in lent memory. An otherwise sound net is refused as not joined
--- exactly when some post has no route to the source." One record for each entry, for whatever is lent to it.
--- `by-the-rules` and `no-other`: document 01's rules, one for each number, give one answer for every input. `refuses`:
--- where they refuse, every outcome that the entry's contract allows is that refusal, and what was lent is as it was.
--- `only-then`: an outcome is a refusal only where they refuse; of a record both are said of reading and then of the net
--- that was read (`OnRecord`). The rules stand in net/specs/Rules, numbers/specs/Rules, writing/specs/Rules,
--- reading/specs/Rules and drawn/specs/Rules. What an answer says, its number and values, is `saysOf`, `marginSaysOf`,
--- `saysBy`, `saysWritten`, `saysPlanned` and, of a check, `checkSays`.
+-- exactly when some post has no route to the source." First the rules: document 01's rules, one for each number, give
+-- one answer for every input (`by-the-rules`, `no-other`). Then every entry, over its own contract (`Says`,
+-- specs/Contracts), whatever is handed to it: where the rules refuse, every outcome is that refusal, and what was lent
+-- is as it was (`refuses`); an outcome is a refusal only where they refuse (`only-then`); for C it is otherwise a
+-- result (`otherwise`). Of a record both are said of reading and then of the net that was read (`OnRecord`). The rules
+-- stand in net/specs/Rules, numbers/specs/Rules, writing/specs/Rules, reading/specs/Rules and drawn/specs/Rules. What
+-- an answer says, its number and values, is `saysOf`, `marginSaysOf`, `saysBy`, `saysWritten`, `saysPlanned`,
+-- `checkSays` and, for C, `packed` and `marked`.
 use mathlib.Core.Path.{_≡_}
 use mathlib.Core.Logic.{_↔_}
 use mathlib.Core.List.{List}
 use mathlib.Core.Option.{Option, some}
-use Prim.Native.Nat.{ℕ, _<_}
+use Prim.Native.Nat.{ℕ, _<_, _^_}
 use lib.ListN.{length}
-use Rattle.net.specs.Net.{Net, every}
-use Rattle.net.specs.Refusals.{refusal, saysOf as checkSays}
+use denote.Ref.{now}
+use Rattle.net.specs.Net.{Net, every, segmentsOf, mostSegments}
+use Rattle.net.specs.Ready.{netBy, countBy}
+use Rattle.net.specs.Refusals.{Lent, refusal, saysOf as checkSays}
 use Rattle.net.specs.Rules.{NetSound, LongEnough, Joined, LowestApart, BuildRule, MarginRule}
-use Rattle.net.specs.Building.{refused, buildRefusal, marginRefusal, marginOf}
+use Rattle.net.specs.Building.{refused, buildRefusal, marginRefusal}
 use Rattle.net.specs.Building as B
-use Rattle.net.specs.declared.Head.{Head}
 use Rattle.net.specs.declared.Segment.{Segment}
 use Rattle.net.specs.declared.Refusal.{Refusal}
-use Rattle.net.specs.declared.Tree.{Tree}
 use Rattle.net.specs.declared.Checked.{Checked}
 use Rattle.crossings.specs.Lists.{netOn}
-use Rattle.building.specs.Answers.{lentOf, Leaves, saysOf}
-use Rattle.margins.specs.Answers.{marginAnswerOf, marginSaysOf}
+use Rattle.building.specs.Answers.{lentOf, saysOf}
+use Rattle.margins.specs.Answers.{marginSaysOf}
 use Rattle.building.specs.declared.Answer.{Answer}
 use Rattle.margins.specs.declared.MarginAnswer.{MarginAnswer}
 use Rattle.numbers.specs.Numbers.{Bytes, Got, got, refused as unread}
 use Rattle.reading.specs.Reading.{netRead}
-use Rattle.writing.specs.Writing.{writeRefusal}
+use Rattle.writing.specs.Writing.{netWritten, writeRefusal}
 use Rattle.reading.specs.Rules.{ReadRule}
 use Rattle.writing.specs.Rules.{WriteRule}
-use Rattle.reading.specs.Answers.{saysBy, checkRead}
-use Rattle.writing.specs.Answers.{refusal-of, saysWritten, Writes}
+use Rattle.reading.specs.Answers.{saysBy}
+use Rattle.writing.specs.Answers.{refusal-of, saysWritten}
 use Rattle.reading.specs.declared.ReadAnswer.{ReadAnswer}
 use Rattle.writing.specs.declared.WriteAnswer.{WriteAnswer}
-use Rattle.on_segments.specs.Reading.{Reads}
-use Rattle.on_records.specs.Asked.{recordRead, Plans, Rewrites, marginRead}
+use Rattle.on_records.specs.Asked.{recordRead}
 use Rattle.on_records.specs.Says.{saysPlanned}
-use Rattle.on_records.specs.declared.PlanAnswer.{PlanAnswer}
-use Rattle.drawn.specs.Drawn.{drawnOf}
-use Rattle.drawn.specs.Says.{Says, saysOf as drawnSays}
+use Rattle.c_numbers.specs.Named.{packed, marked, runNamed}
+use Rattle.drawn.specs.Says.{Says as Said, sixteenths, refused as undrawn, saysOf as drawnSays}
 use Rattle.drawn.specs.Rules.{Answers}
-use Rattle.drawn.specs.declared.Run.{Run}
-use Rattle.drawn.specs.declared.Answer.{Answer as Drawn}
+use Rattle.promises.specs.Contracts.{Says}
+use Rattle.promises.specs.Entries as entry
 
--- BUILDING a net n that claims m segments, with three lists that hold l, s and w
-pub record BuildRefuses (n : Net) (m : ℕ) (l s w : List ℕ) : Type 0 where
-  pub by-the-rules : BuildRule every m n (lentOf l s w) (buildRefusal every n m (lentOf l s w))
-  pub no-other : (r : Option Refusal) → BuildRule every m n (lentOf l s w) r → r ≡ buildRefusal every n m (lentOf l s w)
-  pub refuses : {a : Answer} {l′ s′ w′ : List ℕ} → Leaves n m l s w a l′ s′ w′
-      → (r : Refusal) → buildRefusal every n m (lentOf l s w) ≡ some r → (saysOf a ≡ refused r) × (l′ ≡ l) × (s′ ≡ s)
-      × (w′ ≡ w)
-  pub only-then : {a : Answer} {l′ s′ w′ : List ℕ} → Leaves n m l s w a l′ s′ w′ → (r : Refusal) → saysOf a ≡ refused r
-      → buildRefusal every n m (lentOf l s w) ≡ some r
+-- THE RULES, of building a net n that claims m segments, with three lists of these lengths
+pub record BuildRules (n : Net) (m : ℕ) (lent : Lent) : Type 0 where
+  pub by-the-rules : BuildRule every m n lent (buildRefusal every n m lent)
+  pub no-other : (r : Option Refusal) → BuildRule every m n lent r → r ≡ buildRefusal every n m lent
   -- 9 exactly when nothing before it holds, that post has no route and every lower one has
-  pub nine : (v : ℕ) → (buildRefusal every n m (lentOf l s w) ≡ some (refusal 9 v))
-      ↔ (NetSound every m n × LongEnough n (lentOf l s w) × LowestApart every n v)
+  pub nine : (v : ℕ) → (buildRefusal every n m lent ≡ some (refusal 9 v))
+      ↔ (NetSound every m n × LongEnough n lent × LowestApart every n v)
   -- an otherwise sound net is refused as not joined exactly when some post has no route to the source
-  pub not-joined : NetSound every m n → LongEnough n (lentOf l s w)
-      → ((v : ℕ) × (buildRefusal every n m (lentOf l s w) ≡ some (refusal 9 v)))
+  pub not-joined : NetSound every m n → LongEnough n lent
+      → ((v : ℕ) × (buildRefusal every n m lent ≡ some (refusal 9 v)))
       ↔ ((v : ℕ) × (v < n .head .posts) × (Joined every n v → ⊥))
 
--- THE MARGIN of a post; no list is lent
-pub record MarginRefuses (n : Net) (m : ℕ) (t : Tree) (post : ℕ) : Type 0 where
+-- of the margin of a post
+pub record MarginRules (n : Net) (m : ℕ) (post : ℕ) : Type 0 where
   pub by-the-rules : MarginRule every m n post (marginRefusal every n m post)
   pub no-other : (r : Option Refusal) → MarginRule every m n post r → r ≡ marginRefusal every n m post
-  pub refuses : {a : MarginAnswer} → a ≡ marginAnswerOf (marginOf every n m t post) → (r : Refusal)
-      → marginRefusal every n m post ≡ some r → marginSaysOf a ≡ B.MarginAnswer.refused r
-  pub only-then : {a : MarginAnswer} → a ≡ marginAnswerOf (marginOf every n m t post) → (r : Refusal) → marginSaysOf a
-      ≡ B.MarginAnswer.refused r → marginRefusal every n m post ≡ some r
 
--- READING the bytes of a record, each below 256 (`Bytes`), into a list that holds l
-pub record ReadRefuses (bytes : List ℕ) (l : List Segment) : Type 0 where
-  pub by-the-rules : Bytes bytes → ReadRule bytes (length l) (netRead bytes (length l) 0)
-  pub no-other : (g : Got Net) → ReadRule bytes (length l) g → netRead bytes (length l) 0 ≡ g
-  pub refuses : {a : ReadAnswer} {l′ : List Segment} → Reads bytes l a l′ → (r : Refusal) → netRead bytes (length l) 0
-      ≡ unread r → (saysBy a l′ ≡ refusal-of r) × (l′ ≡ l)
-  pub only-then : {a : ReadAnswer} {l′ : List Segment} → Reads bytes l a l′ → (r : Refusal) → saysBy a l′ ≡ refusal-of r
-      → netRead bytes (length l) 0 ≡ unread r
+-- of reading bytes, each below 256 (`Bytes`), with room for so many segments
+pub record ReadRules (bytes : List ℕ) (room : ℕ) : Type 0 where
+  pub by-the-rules : Bytes bytes → ReadRule bytes room (netRead bytes room 0)
+  pub no-other : (g : Got Net) → ReadRule bytes room g → netRead bytes room 0 ≡ g
 
--- WRITING a net n that claims m segments into a room that holds those bytes
-pub record WriteRefuses (n : Net) (m : ℕ) (room : List ℕ) : Type 0 where
-  pub by-the-rules : WriteRule m n (length room) (writeRefusal n m (length room))
-  pub no-other : (r : Option Refusal) → WriteRule m n (length room) r → r ≡ writeRefusal n m (length room)
-  pub refuses : {a : WriteAnswer} {x : List ℕ} → Writes n m room a x → (r : Refusal) → writeRefusal n m (length room)
-      ≡ some r → (saysWritten a ≡ refusal-of r) × (x ≡ room)
-  pub only-then : {a : WriteAnswer} {x : List ℕ} → Writes n m room a x → (r : Refusal) → saysWritten a ≡ refusal-of r
-      → writeRefusal n m (length room) ≡ some r
+-- of writing into a room of so many bytes
+pub record WriteRules (n : Net) (m : ℕ) (room : ℕ) : Type 0 where
+  pub by-the-rules : WriteRule m n room (writeRefusal n m room)
+  pub no-other : (r : Option Refusal) → WriteRule m n room r → r ≡ writeRefusal n m room
+
+-- OF AN OUTCOME: `rules r` is that the rules refuse with r, `says r` that the answer is this refusal, and `kept` that
+-- everything that was lent is as it was
+pub record Refuses (rules says : Refusal → Type 0) (kept : Type 0) : Type 0 where
+  pub refuses : (r : Refusal) → rules r → says r × kept
+  pub only-then : (r : Refusal) → says r → rules r
+
+-- the same of an answer that is one number: where the rules don't refuse it is a result
+pub record RefusesInNumber (rules says : Refusal → Type 0) (kept result : Type 0) : Type 0 where
+  pub refuses : (r : Refusal) → rules r → says r × kept
+  pub otherwise : ((r : Refusal) → rules r → ⊥) → result
+
+-- BUILDING a net n that claims m segments, where three lists held l, s and w
+abbrev pub BuildRefuses : Net → ℕ → List ℕ → List ℕ → List ℕ → Answer → List ℕ → List ℕ → List ℕ → Type 0
+BuildRefuses n m l s w a l′ s′ w′ = Refuses (λ r. buildRefusal every n m (lentOf l s w) ≡ some r)
+    (λ r. saysOf a ≡ refused r) ((l′ ≡ l) × (s′ ≡ s) × (w′ ≡ w))
+
+-- THE MARGIN of a post; no list is lent for it
+abbrev pub MarginRefuses : Net → ℕ → ℕ → MarginAnswer → Type 0
+MarginRefuses n m post a = Refuses (λ r. marginRefusal every n m post ≡ some r)
+    (λ r. marginSaysOf a ≡ B.MarginAnswer.refused r) (Unit {0})
+
+-- WRITING a net n that claims m segments, where the room held those bytes
+abbrev pub WriteRefuses : Net → ℕ → List ℕ → WriteAnswer → List ℕ → Type 0
+WriteRefuses n m room a x = Refuses (λ r. writeRefusal n m (length room) ≡ some r) (λ r. saysWritten a ≡ refusal-of r)
+    (x ≡ room)
+
+-- READING, with room for so many segments, which are then these
+abbrev pub ReadRefuses : List ℕ → ℕ → ReadAnswer → List Segment → Type 0 → Type 0
+ReadRefuses bytes room a segments kept = Refuses (λ r. netRead bytes room 0 ≡ unread r)
+    (λ r. saysBy a segments ≡ refusal-of r) kept
+
+-- CHECKING a record, of which reading says g
+abbrev pub CheckRefuses : Got Net → Checked → Type 0
+CheckRefuses g a = Refuses (λ r. g ≡ unread r) (λ r. checkSays a ≡ some r) (Unit {0})
 
 -- ON A RECORD: reading refuses it, or what is done with the net that was read is refused
 pub data OnRecord (bytes : List ℕ) (refusing : Net → Option Refusal) (r : Refusal) : Type 0 where
   by-reading : recordRead bytes ≡ unread r → OnRecord bytes refusing r
   by-net : (n : Net) (next : ℕ) → recordRead bytes ≡ got n next → refusing n ≡ some r → OnRecord bytes refusing r
 
--- PLANNING a record, with three lists that hold l, s and w: reading refuses it, or building the net that was read
-pub record PlanRefuses (bytes l s w : List ℕ) : Type 0 where
-  pub refuses : {a : PlanAnswer} {l′ s′ w′ : List ℕ} → Plans bytes l s w a l′ s′ w′ → (r : Refusal)
-      → OnRecord bytes (λ n. buildRefusal every n (length (n .segments)) (lentOf l s w)) r
-      → (saysPlanned a ≡ refusal-of r) × (l′ ≡ l) × (s′ ≡ s) × (w′ ≡ w)
-  pub only-then : {a : PlanAnswer} {l′ s′ w′ : List ℕ} → Plans bytes l s w a l′ s′ w′ → (r : Refusal) → saysPlanned a
-      ≡ refusal-of r
-      → OnRecord bytes (λ n. buildRefusal every n (length (n .segments)) (lentOf l s w)) r
+-- planning it, with three lists of these lengths; writing it again, into a room of so many bytes; the margin of a post
+abbrev pub Unplanned : List ℕ → Lent → Refusal → Type 0
+Unplanned bytes lent = OnRecord bytes (λ n. buildRefusal every n (length (n .segments)) lent)
 
--- WRITING a record AGAIN, into a room that holds those bytes: reading refuses it, or writing the net that was read
-pub record RewriteRefuses (bytes room : List ℕ) : Type 0 where
-  pub refuses : {a : WriteAnswer} {x : List ℕ} → Rewrites bytes room a x → (r : Refusal)
-      → OnRecord bytes (λ n. writeRefusal n (length (n .segments)) (length room)) r → (saysWritten a ≡ refusal-of r)
-      × (x ≡ room)
-  pub only-then : {a : WriteAnswer} {x : List ℕ} → Rewrites bytes room a x → (r : Refusal) → saysWritten a
-      ≡ refusal-of r
-      → OnRecord bytes (λ n. writeRefusal n (length (n .segments)) (length room)) r
+abbrev pub Unwritten : List ℕ → ℕ → Refusal → Type 0
+Unwritten bytes room = OnRecord bytes (λ n. writeRefusal n (length (n .segments)) room)
 
--- THE MARGIN of a post of a record: reading refuses it, or margin refuses the net that was read
-pub record RecordMarginRefuses (bytes : List ℕ) (t : Tree) (post : ℕ) : Type 0 where
-  pub refuses : {a : MarginAnswer} → a ≡ marginRead bytes t post → (r : Refusal)
-      → OnRecord bytes (λ n. marginRefusal every n (length (n .segments)) post) r
-      → marginSaysOf a ≡ B.MarginAnswer.refused r
-  pub only-then : {a : MarginAnswer} → a ≡ marginRead bytes t post → (r : Refusal) → marginSaysOf a
-      ≡ B.MarginAnswer.refused r
-      → OnRecord bytes (λ n. marginRefusal every n (length (n .segments)) post) r
+abbrev pub Unmeasured : List ℕ → ℕ → Refusal → Type 0
+Unmeasured bytes post = OnRecord bytes (λ n. marginRefusal every n (length (n .segments)) post)
 
--- CHECKING a record: reading refuses it
-pub record CheckRefuses (bytes : List ℕ) : Type 0 where
-  pub refuses : {a : Checked} → a ≡ checkRead (recordRead bytes) → (r : Refusal) → recordRead bytes ≡ unread r
-      → checkSays a ≡ some r
-  pub only-then : {a : Checked} → a ≡ checkRead (recordRead bytes) → (r : Refusal) → checkSays a ≡ some r
-      → recordRead bytes ≡ unread r
-
--- A DRAWN RUN; what an answer says is a length or a refusal with number and place
-pub record DrawnRefuses (run : Run) : Type 0 where
-  pub by-the-rules : {a : Drawn} → a ≡ drawnOf run → Answers run (drawnSays a)
-  pub no-other : {a : Drawn} → a ≡ drawnOf run → (s : Says) → Answers run s → drawnSays a ≡ s
-
--- EVERY ENTRY, whatever is lent to it
-pub record Demand1 : Type 0 where
-  pub build : (h : Head) (segments : List Segment) (l s w : List ℕ) → BuildRefuses (netOn h segments) (length segments)
-      l s w
-  pub margin : (h : Head) (segments : List Segment) (t : Tree) (post : ℕ) → MarginRefuses (netOn h segments)
-      (length segments) t post
-  pub read : (bytes : List ℕ) (l : List Segment) → ReadRefuses bytes l
-  pub write : (h : Head) (segments : List Segment) (room : List ℕ) → WriteRefuses (netOn h segments) (length segments)
-      room
-  pub plan : (bytes l s w : List ℕ) → PlanRefuses bytes l s w
-  pub rewrite : (bytes room : List ℕ) → RewriteRefuses bytes room
-  pub margin-read : (bytes : List ℕ) (t : Tree) (post : ℕ) → RecordMarginRefuses bytes t post
-  pub check-read : (bytes : List ℕ) → CheckRefuses bytes
-  pub drawn : (run : Run) → DrawnRefuses run
+-- EVERY ENTRY, whatever is handed to it
+pub record Demand1 : Type 2 where
+  pub build-rules : (n : Net) (m : ℕ) (lent : Lent) → BuildRules n m lent
+  pub margin-rules : (n : Net) (m post : ℕ) → MarginRules n m post
+  pub read-rules : (bytes : List ℕ) (room : ℕ) → ReadRules bytes room
+  pub write-rules : (n : Net) (m room : ℕ) → WriteRules n m room
+  -- over a lent list of segments
+  pub build : Says entry.build (λ κs (h, (segments, (l, (s, (w, _))))) a (_, (_, (l′, (s′, (w′, _))))).
+      BuildRefuses (netOn h (now segments)) (length (now segments)) (now l) (now s) (now w) a l′ s′ w′)
+  pub margin : Says entry.margin (λ κs (h, (segments, (_, (post, _)))) a _.
+      MarginRefuses (netOn h (now segments)) (length (now segments)) post a)
+  pub read : Says entry.read (λ κs (bytes, (l, _)) a (_, (l′, _)).
+      ReadRefuses (now bytes) (length (now l)) a l′ (l′ ≡ now l))
+  pub write : Says entry.write (λ κs (h, (segments, (room, _))) a (_, (_, (x, _))).
+      WriteRefuses (netOn h (now segments)) (length (now segments)) (now room) a x)
+  -- over plain lists
+  pub build-lists : Says entry.build-lists
+      (λ κs (h, (a, (b, (lengths, (l, (s, (w, _))))))) r (_, (_, (_, (_, (l′, (s′, (w′, _))))))).
+      BuildRefuses (netBy h a b lengths) (countBy a b lengths) (now l) (now s) (now w) r l′ s′ w′)
+  pub margin-lists : Says entry.margin-lists (λ κs (h, (a, (b, (lengths, (_, (post, _)))))) r _.
+      MarginRefuses (netBy h a b lengths) (countBy a b lengths) post r)
+  pub read-lists : Says entry.read-lists (λ κs (bytes, (a, (b, (lengths, _)))) r (_, (a′, (b′, (lengths′, _)))).
+      ReadRefuses (now bytes) (countBy a b lengths) r (segmentsOf a′ b′ lengths′)
+      ((a′ ≡ now a) × (b′ ≡ now b) × (lengths′ ≡ now lengths)))
+  pub write-lists : Says entry.write-lists (λ κs (h, (a, (b, (lengths, (room, _))))) r (_, (_, (_, (_, (x, _))))).
+      WriteRefuses (netBy h a b lengths) (countBy a b lengths) (now room) r x)
+  pub check-record : Says entry.check-record (λ κs (bytes, _) a _. CheckRefuses (netRead (now bytes) mostSegments 0) a)
+  -- on records
+  pub plan : Says entry.plan (λ κs (bytes, (l, (s, (w, _)))) a (_, (l′, (s′, (w′, _)))).
+      Refuses (Unplanned (now bytes) (lentOf (now l) (now s) (now w))) (λ r. saysPlanned a ≡ refusal-of r)
+      ((l′ ≡ now l) × (s′ ≡ now s) × (w′ ≡ now w)))
+  pub rewrite : Says entry.rewrite (λ κs (bytes, (room, _)) a (_, (x, _)).
+      Refuses (Unwritten (now bytes) (length (now room))) (λ r. saysWritten a ≡ refusal-of r) (x ≡ now room))
+  pub record-margin : Says entry.record-margin (λ κs (bytes, (_, (post, _))) a _.
+      Refuses (Unmeasured (now bytes) post) (λ r. marginSaysOf a ≡ B.MarginAnswer.refused r) (Unit {0}))
+  pub record-check : Says entry.record-check (λ κs (bytes, _) a _. CheckRefuses (recordRead (now bytes)) a)
+  -- for C: 0 or a length, or the refusal's number and place in one number
+  pub c-check : Says entry.c-check (λ κs (bytes, _) a _.
+      RefusesInNumber (λ r. recordRead (now bytes) ≡ unread r) (λ r. a ≡ packed r) (Unit {0}) (a ≡ 0))
+  pub c-plan : Says entry.c-plan (λ κs (bytes, (l, (s, (w, (d, _))))) a (_, (l′, (s′, (w′, (d′, _))))).
+      RefusesInNumber (Unplanned (now bytes) (lentOf (now l) (now s) (now w))) (λ r. a ≡ packed r)
+      ((l′ ≡ now l) × (s′ ≡ now s) × (w′ ≡ now w) × (d′ ≡ now d)) (a ≡ 0))
+  pub c-rewrite : Says entry.c-rewrite (λ κs (bytes, (room, _)) a (_, (x, _)).
+      RefusesInNumber (Unwritten (now bytes) (length (now room))) (λ r. a ≡ marked r) (x ≡ now room)
+      ((n : Net) (next : ℕ) → recordRead (now bytes) ≡ got n next → a ≡ length (netWritten n)))
+  pub c-margin : Says entry.c-margin (λ κs (bytes, (_, (post, (d, _)))) a (_, (_, (_, (d′, _)))).
+      RefusesInNumber (Unmeasured (now bytes) post) (λ r. a ≡ packed r) (d′ ≡ now d) (a ≡ 0))
+  pub c-drawn : Says entry.c-drawn (λ κs (corner, (first, (second, _))) a _.
+      RefusesInNumber (λ r. Answers (runNamed corner first second) (undrawn (r .number) (r .place))) (λ r. a ≡ marked r)
+      (Unit {0}) ((k : ℕ) → Answers (runNamed corner first second) (sixteenths k) → a ≡ k))
+  -- no two refusals have one number there, and no length has a refusal's
+  pub packed-apart : (r q : Refusal) → r .place < 2 ^ 32 → q .place < 2 ^ 32 → packed r ≡ packed q → r ≡ q
+  pub marked-apart : (r q : Refusal) → r .place < 2 ^ 32 → q .place < 2 ^ 32 → marked r ≡ marked q → r ≡ q
+  pub no-length : (r : Refusal) (k : ℕ) → k < 2 ^ 32 → k ≡ marked r → ⊥
+  -- a drawn run: what an answer says is a length or a refusal with number and place
+  pub drawn : Says entry.drawn (λ κs (run, _) a _. Answers run (drawnSays a))
+  pub drawn-no-other : Says entry.drawn (λ κs (run, _) a _. (s : Said) → Answers run s → drawnSays a ≡ s)

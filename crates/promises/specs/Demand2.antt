@@ -196,8 +196,8 @@ pub record DrawnAsStated : Type 0 where
 
 -- THE PROGRAM: "reads one record from standard input and prints the trees, or the one line of a refusal"
 pub record ProgramAsStated : Type 2 where
-  -- what is printed for a record is the text of its plan's answer, with the lists that planning leaves where each has an
-  -- entry for as many posts as a net may have
+  -- what is printed for a record is the text of its plan's answer, with the lists that planning leaves where each has
+  -- an entry for as many posts as a net may have
   pub printed-is : Says entry.plan (λ κs (bytes, (l, (s, (w, _)))) a (_, (l′, (s′, (w′, _)))).
       length (now l) ≡ mostPosts → length (now s) ≡ mostPosts → length (now w) ≡ mostPosts
       → printed (now bytes) ≡ answerText a l′ s′ w′)
