@@ -7,8 +7,7 @@ use native.Mathlib.Nat.{le-refl}
 use native.Mathlib.Omega.{arith}
 use lib.ListN.{length, drop}
 use Rattle.net.specs.Net.{Net, every, mostPosts}
-use Rattle.net.specs.Refusals.{Lent}
-use Rattle.net.specs.Building.{BuildAnswer, built, lightestOf, shortestOf, betweenOf, walkOf, treeOf, buildRefusal, measured, buildAnswer, buildOf, listAfter, afterBuild}
+use Rattle.net.specs.Building.{BuildAnswer, built, lightestOf, shortestOf, betweenOf, walkOf, treeOf, buildRefusal, buildAnswer, buildOf, listAfter, afterBuild}
 use Rattle.net.specs.Building as B
 use Rattle.net.specs.declared.Head.{Head}
 use Rattle.net.specs.declared.Measured.{Measured}

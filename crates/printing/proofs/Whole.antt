@@ -1,5 +1,5 @@
 -- "The program reads at most 14,351, which is enough for a last segment of three four-byte numbers, so its answer is the reader's answer on the whole input."
-use mathlib.Core.Path.{_≡_, sym, ap, _∙_}
+use mathlib.Core.Path.{_≡_, ap, _∙_}
 use mathlib.Core.List.{List}
 use Prim.Native.Nat.{ℕ, _+_}
 use native.Mathlib.Omega.{arith}
@@ -10,7 +10,6 @@ use Rattle.numbers.specs.Numbers.{Bytes}
 use Rattle.reading.specs.Reading.{enoughBytes}
 use Rattle.reading.proofs.Lengths.{program-enough}
 use Rattle.on_records.specs.Asked.{recordRead}
-use Rattle.lines.specs.Putting.{Put}
 use Rattle.printing.specs.Printed.{linesFor, printed, Prints}
 
 pub whole-input : (bytes : List ℕ) → Bytes bytes → printed (take enoughBytes bytes) ≡ printed bytes

@@ -1,7 +1,7 @@
 -- Document 01's runs of the program as one table: bytes that are read, and bytes that are printed. proofs/Worked
 -- computes all rows as one theorem.
 use mathlib.Core.Path.{_≡_}
-use mathlib.Core.List.{List, [], _∷_, _++_}
+use mathlib.Core.List.{[], _∷_, _++_}
 use Rattle.reading.specs.Worked.{bytesA}
 use Rattle.printing.specs.Printed.{printed}
 

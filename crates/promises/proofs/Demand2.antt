@@ -287,10 +287,12 @@ program-as-stated =
 pub demand-2 : Demand2
 demand-2 =
     record {
-      build = λ h segments l s w. built-as-stated (netOn h segments) (length segments) (le-refl (length segments)) l s w;
-      plan = planned-as-stated;
-      margin = λ h segments. margin-as-stated (netOn h segments) (length segments) (le-refl (length segments));
-      margin-read = record-margin-as-stated;
+      build = λ w κs x g r e. fact-mono (w .𝓤) _ _ (λ p _ _ _ _ f. built-as-stated _ _ (le-refl _) _ _ _ p f);
+      margin = λ w κs x g r e. fact-mono (w .𝓤) _ _ (λ p _ f. margin-as-stated _ _ (le-refl _) _ _ p f);
+      build-lists = λ w κs x g r e. fact-mono (w .𝓤) _ _ (λ p _ _ _ _ f. built-as-stated _ _ (le-refl _) _ _ _ p f);
+      margin-lists = λ w κs x g r e. fact-mono (w .𝓤) _ _ (λ p _ f. margin-as-stated _ _ (le-refl _) _ _ p f);
+      plan = λ w κs x g r e. fact-mono (w .𝓤) _ _ (λ p _ f. planned-as-stated _ _ _ _ p f);
+      record-margin = λ w κs x g r e. fact-mono (w .𝓤) _ _ (λ p _ f _ _ i. record-margin-as-stated _ _ _ p f i);
       ratio = scaled-as-stated;
       records = records-both-ways;
       longest = longest-record;

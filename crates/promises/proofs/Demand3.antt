@@ -3,6 +3,7 @@ use mathlib.Core.Path.{_≡_, _∙_, subst}
 use mathlib.Core.List.{List}
 use Prim.Native.Nat.{ℕ, _*_, _≤_}
 use native.Mathlib.Nat.{le-refl}
+use contract.Monad.{fact-mono}
 use lib.ListN.{length, take}
 use Rattle.net.specs.Words.{AllOf}
 use Rattle.net.specs.Net.{Net, every}
@@ -13,7 +14,6 @@ use Rattle.net.proofs.Cost.{all-of}
 use Rattle.net.proofs.Sound.{inside, few, between-tree, laid-length, laid-sum}
 use Rattle.net.proofs.Measuring.{tree-length}
 use Rattle.net.proofs.Demand.{path-limit, no-slack, length-limit, length-limit-tree}
-use Rattle.crossings.specs.Lists.{netOn}
 use Rattle.building.specs.Answers.{Leaves, saysOf}
 use Rattle.building.specs.declared.Answer.{Answer}
 use Rattle.building.proofs.Unique.{says-answer}
@@ -64,4 +64,9 @@ bounds-planned bytes l s w {w′ = w′} {q = q} p e {n} i =
     (bounds-left (v .n) (length (v .n .segments)) (le-refl (length (v .n .segments))) l s w (v .leaves) (says-answer _ ∙ v .says))
 
 pub demand-3 : Demand3
-demand-3 = record { build = λ h segments l s w. bounds-left (netOn h segments) (length segments) (le-refl (length segments)) l s w; plan = bounds-planned }
+demand-3 =
+    record {
+      build = λ w κs x g r e. fact-mono (w .𝓤) _ _ (λ p _ _ _ _ f. bounds-left _ _ (le-refl _) _ _ _ p f);
+      build-lists = λ w κs x g r e. fact-mono (w .𝓤) _ _ (λ p _ _ _ _ f. bounds-left _ _ (le-refl _) _ _ _ p f);
+      plan = λ w κs x g r e. fact-mono (w .𝓤) _ _ (λ p _ f _ _ i. bounds-planned _ _ _ _ p f i);
+    }

@@ -1,7 +1,7 @@
 -- Every entry's own contract asks nothing and says what Tied has in its row: the two are the same text, but for `number_size`, whose contract says more.
 use base.Logic.{id⊢}
 use contract.Monad.{fact-mono}
-use Rattle.promises.specs.Tied.{Keeps, Tied}
+use Rattle.promises.specs.Tied.{Tied}
 
 pub tied : Tied
 tied =

@@ -1,6 +1,5 @@
 -- Two outcomes of an entry are equal: the laws of the crates, over the entries' own contracts.
 use mathlib.Core.Path.{_≡_, sym, _∙_}
-use Prim.Native.Nat.{ℕ}
 use base.Logic.{ent}
 use contract.Monad.{fact, factI, fact-use, conj, conjL, conjR}
 use borrow.Fn.World.{World}

@@ -2,9 +2,10 @@
 -- included. Records are read and written both ways without loss, one record for one net. A drawn length becomes the
 -- whole number of sixteenths that it is." The definitions of net/specs compute the trees; `TreesAsStated` is what they
 -- come to in document 01's own words, over chains, routes and the walk's rules. The rest is said of the outcomes that
--- the entries' contracts allow: what building leaves in the lent lists, a margin that is given, what is read and
--- written, a drawn run's length. What an answer says, its number and values, is `saysOf`, `saysPlanned`,
--- `marginSaysOf`, `saysBy`, `saysWritten` and, of a run, `drawnSays`.
+-- the entries' own contracts allow (`Says`, specs/Contracts): what building leaves in the lent lists, a margin that is
+-- given, what is printed. Records both ways and drawn runs are said over `Reads`, `Writes` and `drawnOf`, which are
+-- those contracts (specs/Tied). What an answer says, its number and values, is `saysOf`, `saysPlanned`, `marginSaysOf`,
+-- `saysBy`, `saysWritten` and, of a run, `drawnSays`.
 use mathlib.Core.Path.{_≡_}
 use mathlib.Core.Logic.{_↔_}
 use mathlib.Core.Bool.{false}
@@ -25,12 +26,12 @@ use Rattle.net.specs.Net.{Net, mostRatio, scaled, every, lengthAt, setLength, m
 use Rattle.net.specs.Trees.{at, IsLeast, HangsBy, ExactlyBelonging, Climb, IsTree, entry, usedBy, pathIn}
 use Rattle.net.specs.Walk.{Notes, Given}
 use Rattle.net.specs.WalkRules.{WalkGives}
-use Rattle.net.specs.Building.{built, lightestOf, leastLengthsOf, shortestOf, betweenOf, laidOf, treeOf, marginOf}
+use Rattle.net.specs.Building.{built, lightestOf, leastLengthsOf, shortestOf, betweenOf, laidOf, treeOf}
 use Rattle.net.specs.Building as B
+use Rattle.net.specs.Ready.{netBy}
 use Rattle.crossings.specs.Lists.{netOn}
-use Rattle.building.specs.Answers.{Leaves, saysOf}
-use Rattle.margins.specs.Answers.{marginAnswerOf, marginSaysOf}
-use Rattle.building.specs.declared.Answer.{Answer}
+use Rattle.building.specs.Answers.{saysOf}
+use Rattle.margins.specs.Answers.{marginSaysOf}
 use Rattle.margins.specs.declared.MarginAnswer.{MarginAnswer}
 use Rattle.numbers.specs.Numbers.{Bytes, got}
 use Rattle.numbers.specs.Putting.{onto}
@@ -40,9 +41,8 @@ use Rattle.writing.specs.Answers.{result, saysWritten, Writes}
 use Rattle.reading.specs.declared.ReadAnswer.{ReadAnswer}
 use Rattle.writing.specs.declared.WriteAnswer.{WriteAnswer}
 use Rattle.on_segments.specs.Reading.{Reads}
-use Rattle.on_records.specs.Asked.{recordRead, Plans, marginRead}
+use Rattle.on_records.specs.Asked.{recordRead}
 use Rattle.on_records.specs.Says.{Plan, saysPlanned}
-use Rattle.on_records.specs.declared.PlanAnswer.{PlanAnswer}
 use Rattle.reading.specs.Reading.{enoughBytes}
 use Rattle.printing.specs.Printed.{printed, answerText}
 use Rattle.drawn.specs.Drawn.{drawnOf}
@@ -209,19 +209,25 @@ pub record ProgramAsStated : Type 2 where
 
 -- EVERY ENTRY
 pub record Demand2 : Type 2 where
-  pub build : (h : Head) (segments : List Segment) (l s w : List ℕ) {a : Answer} {l′ s′ w′ : List ℕ} {x y z : Measured}
-      {k : ℕ}
-      → Leaves (netOn h segments) (length segments) l s w a l′ s′ w′ → saysOf a ≡ built x y z k
-      → BuiltAsStated (netOn h segments) l s w l′ s′ w′ x y z k
-  pub plan : (bytes l s w : List ℕ) {a : PlanAnswer} {l′ s′ w′ : List ℕ} {q : Plan} → Plans bytes l s w a l′ s′ w′
-      → saysPlanned a ≡ result q
-      → PlannedAsStated bytes l s w l′ s′ w′ q
-  pub margin : (h : Head) (segments : List Segment) (t : Tree) (post : ℕ) {a : MarginAnswer} {z : ℤ}
-      → a ≡ marginAnswerOf (marginOf every (netOn h segments) (length segments) t post) → marginSaysOf a
-      ≡ B.MarginAnswer.margin z → MarginAsStated (netOn h segments) t post z
-  pub margin-read : (bytes : List ℕ) (t : Tree) (post : ℕ) {a : MarginAnswer} {z : ℤ} → a ≡ marginRead bytes t post
-      → marginSaysOf a ≡ B.MarginAnswer.margin z
-      → {n : Net} {next : ℕ} → recordRead bytes ≡ got n next → MarginAsStated n t post z
+  -- over a lent list of segments
+  pub build : Says entry.build (λ κs (h, (segments, (l, (s, (w, _))))) a (_, (_, (l′, (s′, (w′, _))))).
+      (x y z : Measured) (k : ℕ) → saysOf a ≡ built x y z k
+      → BuiltAsStated (netOn h (now segments)) (now l) (now s) (now w) l′ s′ w′ x y z k)
+  pub margin : Says entry.margin (λ κs (h, (segments, (t, (post, _)))) a _.
+      (z : ℤ) → marginSaysOf a ≡ B.MarginAnswer.margin z → MarginAsStated (netOn h (now segments)) t post z)
+  -- over plain lists
+  pub build-lists : Says entry.build-lists
+      (λ κs (h, (a, (b, (lengths, (l, (s, (w, _))))))) r (_, (_, (_, (_, (l′, (s′, (w′, _))))))).
+      (x y z : Measured) (k : ℕ) → saysOf r ≡ built x y z k
+      → BuiltAsStated (netBy h a b lengths) (now l) (now s) (now w) l′ s′ w′ x y z k)
+  pub margin-lists : Says entry.margin-lists (λ κs (h, (a, (b, (lengths, (t, (post, _)))))) r _.
+      (z : ℤ) → marginSaysOf r ≡ B.MarginAnswer.margin z → MarginAsStated (netBy h a b lengths) t post z)
+  -- on records
+  pub plan : Says entry.plan (λ κs (bytes, (l, (s, (w, _)))) a (_, (l′, (s′, (w′, _)))).
+      (q : Plan) → saysPlanned a ≡ result q → PlannedAsStated (now bytes) (now l) (now s) (now w) l′ s′ w′ q)
+  pub record-margin : Says entry.record-margin (λ κs (bytes, (t, (post, _))) a _.
+      (z : ℤ) → marginSaysOf a ≡ B.MarginAnswer.margin z
+      → (n : Net) (next : ℕ) → recordRead (now bytes) ≡ got n next → MarginAsStated n t post z)
   -- both ratios within the bounds
   pub ratio : (h : Head) (k : ℕ) (segments : List Segment) → 1 ≤ k → k * h .p ≤ mostRatio → k * h .q ≤ mostRatio
       → ScaledAsStated h k segments

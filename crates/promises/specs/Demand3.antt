@@ -6,21 +6,21 @@ use mathlib.Core.Path.{_≡_}
 use mathlib.Core.Bool.{Bool}
 use mathlib.Core.List.{List}
 use Prim.Native.Nat.{ℕ, _+_, _*_, _≤_, _<_}
-use lib.ListN.{length, take}
-use Rattle.net.specs.declared.Head.{Head}
+use lib.ListN.{take}
+use denote.Ref.{now}
 use Rattle.net.specs.declared.Measured.{Measured}
-use Rattle.net.specs.declared.Segment.{Segment}
 use Rattle.net.specs.Net.{Net, every, lengthAt, Route, routeLength, weigh, setLength, JoinsAll, SpanningTree}
 use Rattle.net.specs.Trees.{at, IsLeast, IsTree, pathIn, whole}
 use Rattle.net.specs.Building.{built, lightestOf, leastLengthsOf, laidOf}
+use Rattle.net.specs.Ready.{netBy}
 use Rattle.crossings.specs.Lists.{netOn}
-use Rattle.building.specs.Answers.{Leaves, saysOf}
-use Rattle.building.specs.declared.Answer.{Answer}
+use Rattle.building.specs.Answers.{saysOf}
 use Rattle.numbers.specs.Numbers.{got}
 use Rattle.writing.specs.Answers.{result}
-use Rattle.on_records.specs.Asked.{recordRead, Plans}
+use Rattle.on_records.specs.Asked.{recordRead}
 use Rattle.on_records.specs.Says.{Plan, saysPlanned}
-use Rattle.on_records.specs.declared.PlanAnswer.{PlanAnswer}
+use Rattle.promises.specs.Contracts.{Says}
+use Rattle.promises.specs.Entries as entry
 
 -- of a net that building takes, and of its third tree t
 pub record Bounds (n : Net) (t : List ℕ) : Type 0 where
@@ -52,14 +52,17 @@ pub record LengthWithin (n : Net) (z : ℕ) : Type 0 where
   pub any-spanning-tree : (U : ℕ → Bool) → SpanningTree (n .segments) every (n .head .posts) (n .head .source) U
       → n .head .p * z ≤ (n .head .p + 2 * n .head .q) * setLength (n .segments) U
 
--- WHERE BUILDING SAYS BUILT
-pub record Demand3 : Type 0 where
-  pub build : (h : Head) (segments : List Segment) (l s w : List ℕ) {a : Answer} {l′ s′ w′ : List ℕ} {x y z : Measured}
-      {k : ℕ}
-      → Leaves (netOn h segments) (length segments) l s w a l′ s′ w′ → saysOf a ≡ built x y z k
-      → Bounds (netOn h segments) (take (h .posts) w′) × LengthWithin (netOn h segments) (z .length)
+-- WHERE BUILDING SAYS BUILT, by its own contract
+pub record Demand3 : Type 2 where
+  pub build : Says entry.build (λ κs (h, (segments, _)) a (_, (_, (_, (_, (w, _))))).
+      (x y z : Measured) (k : ℕ) → saysOf a ≡ built x y z k
+      → Bounds (netOn h (now segments)) (take (h .posts) w) × LengthWithin (netOn h (now segments)) (z .length))
+  -- over plain lists
+  pub build-lists : Says entry.build-lists
+      (λ κs (h, (a, (b, (lengths, _)))) r (_, (_, (_, (_, (_, (_, (w, _))))))).
+      (x y z : Measured) (k : ℕ) → saysOf r ≡ built x y z k
+      → Bounds (netBy h a b lengths) (take (h .posts) w) × LengthWithin (netBy h a b lengths) (z .length))
   -- and of a record that was planned
-  pub plan : (bytes l s w : List ℕ) {a : PlanAnswer} {l′ s′ w′ : List ℕ} {q : Plan} → Plans bytes l s w a l′ s′ w′
-      → saysPlanned a ≡ result q
-      → {n : Net} {next : ℕ} → recordRead bytes ≡ got n next → Bounds n (take (n .head .posts) w′)
-      × LengthWithin n (q .between .length)
+  pub plan : Says entry.plan (λ κs (bytes, _) a (_, (_, (_, (w, _)))).
+      (q : Plan) → saysPlanned a ≡ result q → (n : Net) (next : ℕ) → recordRead (now bytes) ≡ got n next
+      → Bounds n (take (n .head .posts) w) × LengthWithin n (q .between .length))

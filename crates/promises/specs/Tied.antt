@@ -4,7 +4,6 @@
 -- is handed over, then the answer, then what is left; `_` is what a row doesn't speak of. `now` is what a lent list
 -- holds at the call.
 use mathlib.Core.Path.{_≡_}
-use Prim.Native.Nat.{_≤_}
 use lib.ListN.{length}
 use denote.Ref.{now}
 use Rattle.net.specs.Net.{every, mostSegments}
