@@ -28,7 +28,7 @@ pub use denote.Slice.{Room, sliceTy, sliceVal, at-slice, slice-vals}
 pub use denote.Memory.{lone}
 pub use denote.Index.{row, place-is, elem-out, elem-back, elem-put, looks-slice, shuts-slice, opens-slice, closes-slice}
 pub use denote.Steps.{owned, heard, facts as let-go}
-pub use Rattle.by_hand.proofs.Params.{Kind, dat, shr, own, unit}
+pub use Rattle.by_hand.proofs.Params.{Kind, dat, shr, own, unit, truth}
 pub use Rattle.by_hand.proofs.Thin.{Walk, Over, Callee, callee, solved}
 pub use Rattle.by_hand.proofs.Steps.{begins, at, counts, relends, spans, args, calls, gone, gone-room}
-pub use Rattle.by_hand.proofs.Loops.{upto, holds, fails, data-copy, finishes, lends-mut, returned-mut, lends-array, array-back, lends-array-mut, array-back-mut}
+pub use Rattle.by_hand.proofs.Loops.{turns, upto, tests, holds, fails, data-copy, finishes, lends-mut, returned-mut, lends-array, array-back, lends-array-mut, array-back-mut}

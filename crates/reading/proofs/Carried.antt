@@ -1,20 +1,19 @@
 -- Numbers that a reader reads one behind the other: each begins where the one before it ends, and where one is refused the reader stays, so the first refusal
--- stands whatever is read after it. What three and five of them come to is what `triple` and `heading` say. Relies on numbers' Groups and on Steps.
+-- stands whatever is read after it. What three and five of them come to is what `segment` and `heading` say. Relies on numbers' Groups and on Steps.
 use Prim.Native.Nat.{ℕ, _+_, _≤_}
 use mathlib.Core.Path.{_≡_, refl, sym, _∙_}
 use mathlib.Core.List.{List}
 use native.Mathlib.Omega.{arith}
-use lib.Dec.{lit≤}
 use Rattle.net.specs.Refusals.{refusal}
 use Rattle.net.specs.declared.Refusal.{Refusal}
 use Rattle.numbers.specs.Numbers.{Got, got, refused, number}
-use Rattle.reading.specs.Reading.{Reading, andThen, Triple, Heading, triple, heading}
+use Rattle.reading.specs.Reading.{Reading, andThen, Triple, Heading, triple, heading, segment}
 use Rattle.numbers.specs.Answers.{numberedOf, saysNumbered, behindOf}
-use Rattle.reading.specs.Answers.{Placeable, tripleOf, headingOf}
+use Rattle.reading.specs.Answers.{Placeable, tripleOf, headingOf, segmentOf}
 use Rattle.numbers.specs.declared.Numbered.{Numbered}
 use Rattle.numbers.specs.declared.Numbered.the-variants.{Number, Refused as NumberRefused}
 use Rattle.numbers.proofs.Groups.{number-next, number-place}
-use Rattle.reading.proofs.Steps.{heading-by}
+use Rattle.reading.proofs.Steps.{heading-by, segment-by}
 
 -- OF ANSWERS: the ways out of the code
 pub refused-behind : (v : Numbered) (n place : ℕ) → v ≡ NumberRefused n place → place ≡ behindOf v
@@ -89,9 +88,10 @@ module _ (bytes : List ℕ) where
       let a = on-near at in let b = on-near (on at) in let c = on-near (on (on at)) in
       (omega arith, (omega arith, omega arith))
 
-  pub head-near : Placeable (read 0) × (Placeable (read (on 0)) × (Placeable (read (on (on 0))) × (Placeable (read (on (on (on 0)))) × Placeable (read (on (on (on (on 0))))))))
-  head-near =
-      let t = three-near 0 (lit≤ tt) in let a = on-near 0 in let b = on-near (on 0) in let c = on-near (on (on 0)) in let d = on-near (on (on (on 0))) in let e = on-near (on (on (on (on 0)))) in
+  pub head-near : (at : ℕ) → at ≤ 1000000
+      → Placeable (read at) × (Placeable (read (on at)) × (Placeable (read (on (on at))) × (Placeable (read (on (on (on at)))) × Placeable (read (on (on (on (on at))))))))
+  head-near at few =
+      let t = three-near at few in let a = on-near at in let b = on-near (on at) in let c = on-near (on (on at)) in let d = on-near (on (on (on at))) in let e = on-near (on (on (on (on at)))) in
       (t .0, (t .1 .0, (t .1 .1, (omega arith, omega arith))))
 
   -- a last number
@@ -115,6 +115,9 @@ module _ (bytes : List ℕ) where
   triple-carried at =
       carried (λ a i. andThen (saysNumbered (read i)) (λ b _. andThen (saysNumbered (read (on i))) (λ c k. got (record { one = a; two = b; three = c }) k))) _ at (λ a i.
       carried (λ b j. andThen (saysNumbered (read j)) (λ c k. got (record { one = a; two = b; three = c }) k)) _ i (λ b j. last-carried (λ c k. got (record { one = a; two = b; three = c }) k) j))
+
+  pub segment-carried : (posts i at : ℕ) → segmentOf (tripleOf (read at) (read (on at)) (read (on (on at)))) posts i ≡ segment bytes posts i at
+  segment-carried posts i at = rw (triple-carried at) (sym (segment-by bytes posts i at))
 
   pub heading-carried : (at : ℕ) → headingOf (read at) (read (on at)) (read (on (on at))) (read (on (on (on at)))) (read (on (on (on (on at))))) ≡ heading bytes at
   unfolding headingOf

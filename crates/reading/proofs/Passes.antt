@@ -1,23 +1,23 @@
 -- The pass over the segments and what stands behind a head, by the ways out of the code. Relies on Steps.
 use Prim.Native.Nat.{ℕ, zero, suc, _+_, _*_, _-_, _<_, _≤_}
 use mathlib.Core.Path.{_≡_, refl, sym, ap, _∙_}
+use mathlib.Core.Bool.{Bool, true, false}
 use mathlib.Core.List.{List, [], _∷_, _++_, append-assoc, append-nil}
 use mathlib.Core.Option.{none, some}
-use native.Mathlib.Nat.{sub-zero, le-refl}
+use native.Mathlib.Nat.{sub-zero}
 use native.Mathlib.Omega.{arith}
 use lib.ListN.{length}
-use borrow.Author.Tests.{lt-ltb, le-ltb}
+use lib.Dec.{ltb}
+use borrow.Author.Tests.{lt-ltb, le-ltb, ltb-false}
 use Rattle.net.specs.Refusals.{refusal, first, headLines}
 use Rattle.net.specs.declared.Segment.{Segment}
 use Rattle.net.specs.declared.Head.{Head}
 use Rattle.net.specs.declared.Refusal.{Refusal}
 use Rattle.numbers.specs.Numbers.{Got, got, refused}
 use Rattle.reading.specs.Reading.{andThen, hold, Heading, roomLines, heading, segment, segments, ended, restRead, netRead}
-use Rattle.reading.specs.Answers.{headReadOf, segmentReadOf, segmentedOf}
+use Rattle.reading.specs.Answers.{headReadOf, segmentReadOf}
 use Rattle.reading.specs.declared.SegmentRead.{SegmentRead}
 use Rattle.reading.specs.declared.SegmentRead.the-variants.{Read as ReadSegment, Refused as SegmentRefused}
-use Rattle.reading.specs.declared.Segmented.{Segmented}
-use Rattle.reading.specs.declared.Segmented.the-variants.{All, Refused as SegmentsRefused}
 use Rattle.reading.specs.declared.HeadRead.{HeadRead}
 use Rattle.reading.specs.declared.HeadRead.the-variants.{Read as ReadHead, Refused as HeadRefused}
 use Rattle.reading.proofs.Steps.{segment-next}
@@ -89,11 +89,6 @@ module _ (bytes : List ℕ) (posts : ℕ) where
     pub pass-all : count ≤ i → segments bytes posts 0 count at ≡ got pre next
     pass-all h = let z : count - i ≡ 0 = omega arith in p .same ∙ rw (z, segments-none) (rw append-nil)
 
-  -- where nothing is kept, some segments were read
-  pub record Passed (count at next i : ℕ) : Type 0 where
-    pub pre : List Segment
-    pub pass : PassTo count at pre next i
-
   -- the first of several segments that were read
   pub record FirstOf (i k at : ℕ) (ss : List Segment) (next : ℕ) : Type 0 where
     pub s : Segment
@@ -129,29 +124,18 @@ module _ (bytes : List ℕ) (posts : ℕ) where
       let n = segment-next bytes posts i at (f .s) (f .j) (f .one) in
       (rw (f .is) (ap suc (c .0)), omega (arith, c .1))
 
--- what the segments' reader answers, and what its answer says
-pub stopped-is : {g : Got (List Segment)} {r : Refusal} → g ≡ refused r → SegmentsRefused r ≡ segmentedOf g
-stopped-is e = rw e
-
-pub ended-is : {g : Got (List Segment)} {ss : List Segment} {next : ℕ} → g ≡ got ss next → All next ≡ segmentedOf g
-ended-is e = rw e
-
-pub segments-stopped : (g : Got (List Segment)) {v : Segmented} {r : Refusal} → v ≡ segmentedOf g → v ≡ SegmentsRefused r → g ≡ refused r
-segments-stopped (got ss i) e f = let z : _≡_ {A = ℕ} 0 1 = cc in absurd (omega arith)
-segments-stopped (refused q) e f = cc
-
-pub record Given (g : Got (List Segment)) (next : ℕ) : Type 0 where
-  pub ss : List Segment
-  pub is : g ≡ got ss next
-
-pub segments-given : (g : Got (List Segment)) {v : Segmented} {next : ℕ} → v ≡ segmentedOf g → v ≡ All next → Given g next
-segments-given (got ss i) {v} {next} e f = let y : i ≡ next = cc in record { ss = ss; is = rw y }
-segments-given (refused q) e f = let z : _≡_ {A = ℕ} 0 1 = cc in absurd (omega arith)
-
 -- WHAT STANDS BEHIND A HEAD
 pub room-short : (room count : ℕ) → room < count → first (roomLines room count) ≡ some (refusal 8 0)
 unfolding roomLines first
 room-short room count l = rw (lt-ltb _ _ l)
+
+pub room-enough : (room count : ℕ) → first (roomLines room count) ≡ none → count ≤ room
+unfolding roomLines first
+room-enough room count e = go (ltb room count) refl
+  where
+    go : (b : Bool) → ltb room count ≡ b → count ≤ room
+    go true f = let z : _≡_ {A = ℕ} 0 1 = cc in absurd (omega arith)
+    go false f = ltb-false room count f
 
 pub room-long : (room count : ℕ) → count ≤ room → first (roomLines room count) ≡ none
 unfolding roomLines first
@@ -175,6 +159,10 @@ module _ (bytes : List ℕ) (room : ℕ) (h : Heading) (at : ℕ) where
     unfolding restRead hold
     rest-room l = rw (e, room-short room (h .count) l)
 
+    pub rest-eight : {r : Refusal} → first (roomLines room (h .count)) ≡ some r → restRead bytes room h at ≡ refused r
+    unfolding restRead hold
+    rest-eight f = rw (e, f)
+
     module _ (l : h .count ≤ room) where
       pub rest-segments : {r : Refusal} → segments bytes (h .head .posts) 0 (h .count) at ≡ refused r → restRead bytes room h at ≡ refused r
       unfolding restRead hold
@@ -188,11 +176,6 @@ module _ (bytes : List ℕ) (room : ℕ) (h : Heading) (at : ℕ) where
         pub rest-all : length bytes ≤ next → restRead bytes room h at ≡ got (record { head = h .head; segments = ss }) next
         unfolding restRead hold
         rest-all m = rw (e, room-long room (h .count) l, f, no-bytes-left bytes next m)
-
--- with places for all segments it does not matter how many there are more
-pub rest-any : (bytes : List ℕ) (room : ℕ) (h : Heading) (at : ℕ) → h .count ≤ room → restRead bytes room h at ≡ restRead bytes (h .count) h at
-unfolding restRead hold
-rest-any bytes room h at l = rw (room-long room (h .count) l, room-long (h .count) (h .count) (le-refl (h .count)))
 
 pub net-by : (bytes : List ℕ) (room at : ℕ) → netRead bytes room at ≡ andThen (heading bytes at) (restRead bytes room)
 unfolding netRead

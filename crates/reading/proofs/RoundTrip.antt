@@ -17,7 +17,8 @@ use Rattle.writing.specs.Writing.{headWritten, segmentWritten, segmentsWritten,
 use Rattle.numbers.specs.Rules.{Stand}
 use Rattle.writing.proofs.Lines.{head-only, head-sound, segment-only, segment-sound}
 use Rattle.numbers.proofs.Runs.{stand-append, stand-first, stand-second, stand-none, number-stands, number-is}
-use Rattle.reading.proofs.Steps.{triple-is, triple-all, heading-is, heading-all, segmentFrom, segment-is, segment-all}
+use Rattle.reading.specs.Answers.{segmentFrom}
+use Rattle.reading.proofs.Steps.{triple-is, triple-all, heading-is, heading-all, segment-is, segment-all}
 use Rattle.reading.proofs.Passes.{segments-more, segments-none, FirstOf, segments-first, segments-count, rest-all, net-rest}
 use Rattle.reading.proofs.Parsed.{net-is}
 

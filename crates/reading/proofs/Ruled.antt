@@ -22,7 +22,8 @@ use Rattle.numbers.specs.Rules.{NumberRule}
 use Rattle.reading.specs.Rules.{Row, empty, next, BreaksOff, SoundSegments, HeadStands, ReadRule, head-ten-eleven, one-to-four, eight, segment-ten-eleven, five-to-seven, twelve, good}
 use Rattle.writing.proofs.Lines.{head-only, head-rule, segment-only, segment-rule}
 use Rattle.numbers.proofs.RuledNumbers.{number-only, number-answers}
-use Rattle.reading.proofs.Steps.{triple-is, triple-first, triple-second, triple-third, triple-all, heading-is, heading-by, heading-stops, heading-fourth, heading-fifth, heading-all, segmentFrom, segment-stops, segment-refused, segment-all}
+use Rattle.reading.specs.Answers.{segmentFrom}
+use Rattle.reading.proofs.Steps.{triple-is, triple-first, triple-second, triple-third, triple-all, heading-is, heading-by, heading-stops, heading-fourth, heading-fifth, heading-all, segment-stops, segment-refused, segment-all}
 use Rattle.reading.proofs.Passes.{behind, behind-none, behind-one, segments-none, segments-stop, segments-more, rest-head, rest-room, rest-segments, rest-more, rest-all, net-stops, net-rest}
 
 module _ (bytes : List ℕ) where

@@ -4,14 +4,13 @@ use mathlib.Core.Path.{_≡_, refl, sym}
 use mathlib.Core.List.{List}
 use mathlib.Core.Option.{Option, none, some}
 use native.Mathlib.Omega.{arith}
-use lib.ListN.{length}
 use Rattle.net.specs.Refusals.{first, segmentLines}
 use Rattle.net.specs.declared.Segment.{Segment}
 use Rattle.net.specs.declared.Head.{Head}
 use Rattle.net.specs.declared.Refusal.{Refusal}
 use Rattle.numbers.specs.Numbers.{Got, got, refused, number}
 use Rattle.reading.specs.Reading.{Reading, andThen, unless, hold, Triple, Heading, triple, heading, segment}
-use Rattle.reading.specs.Answers.{threeOf, headReadOf, segmentReadOf}
+use Rattle.reading.specs.Answers.{threeOf, headReadOf, segmentFrom, segmentOf, segmentReadOf}
 use Rattle.reading.specs.declared.Three.{Three}
 use Rattle.reading.specs.declared.Three.the-variants.{Numbers, Refused as ThreeRefused}
 use Rattle.reading.specs.declared.HeadRead.the-variants.{Read as ReadHead, Refused as HeadRefused}
@@ -31,10 +30,6 @@ three-gives (got t j) v a b c i e f =
     let w : j ≡ i = cc in
     rw (← x, ← y, ← z, ← w)
 three-gives (refused q) v a b c i e f = let z : _≡_ {A = ℕ} 0 1 = cc in absurd (omega arith)
-
--- three numbers as a segment
-abbrev pub segmentFrom : Triple → Segment
-segmentFrom t = record { a = t .one; b = t .two; length = t .three }
 
 module _ (bytes : List ℕ) where
   -- THREE NUMBERS
@@ -188,20 +183,22 @@ module _ (bytes : List ℕ) where
       omega (arith, triple-next at _ (f .i) (f .three-are), number-next bytes (f .i) _ (f .j) (f .fourth-is), number-next bytes (f .j) _ next (f .fifth-is))
 
   -- A SEGMENT: three numbers, then 5, 6, 7
-  pub segment-by : (posts i at : ℕ) → segment bytes posts i at
-      ≡ andThen (triple bytes at) (λ t at. andThen (unless (first (segmentLines posts (segmentFrom t) i)) at) (λ _ at. got (segmentFrom t) at))
-  unfolding segment hold
+  pub segment-by : (posts i at : ℕ) → segment bytes posts i at ≡ segmentOf (triple bytes at) posts i
+  unfolding segment hold segmentOf
   segment-by posts i at = sym (three-then at (λ t at. andThen (unless (first (segmentLines posts (segmentFrom t) i)) at) (λ _ at. got (segmentFrom t) at)))
 
   module _ (posts i at : ℕ) where
     pub segment-stops : {r : Refusal} → triple bytes at ≡ refused r → segment bytes posts i at ≡ refused r
+    unfolding segmentOf
     segment-stops e = rw (segment-by, e)
 
     module _ {t : Triple} {next : ℕ} (e : triple bytes at ≡ got t next) where
       pub segment-refused : {r : Refusal} → first (segmentLines posts (segmentFrom t) i) ≡ some r → segment bytes posts i at ≡ refused r
+      unfolding segmentOf
       segment-refused f = rw (segment-by, e, f)
 
       pub segment-all : first (segmentLines posts (segmentFrom t) i) ≡ none → segment bytes posts i at ≡ got (segmentFrom t) next
+      unfolding segmentOf
       segment-all f = rw (segment-by, e, f)
 
   -- what a segment that was read is
@@ -212,6 +209,7 @@ module _ (bytes : List ℕ) where
     pub not-refused : first (segmentLines posts s i) ≡ none
 
   pub segment-is : (posts i at : ℕ) (s : Segment) (next : ℕ) → segment bytes posts i at ≡ got s next → OneSegment posts i at s next
+  unfolding segmentOf
   segment-is posts i at s next e = go₁ (triple bytes at) refl (rw segment-by at e)
     where
       go₂ : (t : Triple) (j : ℕ) → triple bytes at ≡ got t j → (o : Option Refusal) → first (segmentLines posts (segmentFrom t) i) ≡ o

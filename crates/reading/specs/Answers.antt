@@ -6,13 +6,14 @@ use mathlib.Core.Path.{_≡_}
 use mathlib.Core.List.{List, _++_, map}
 use lib.ListN.{length, take, drop}
 use Rattle.net.specs.Net.{Net, netOf, segmentsOf}
+use Rattle.net.specs.Refusals.{first, segmentLines}
 use Rattle.net.specs.declared.Segment.{Segment}
 use Rattle.net.specs.declared.Checked.{Checked}
 use Rattle.net.specs.declared.Checked.the-variants.{Sound, Refused as Unsound}
 use Rattle.numbers.specs.Numbers.{Got, got, refused}
 use Rattle.numbers.specs.Answers.{saysNumbered, behindOf}
 use Rattle.writing.specs.Answers.{Said, result, refusal-of}
-use Rattle.reading.specs.Reading.{andThen, Triple, Heading, netRead}
+use Rattle.reading.specs.Reading.{andThen, unless, Triple, Heading, netRead}
 use Rattle.numbers.specs.declared.Numbered.{Numbered}
 use Rattle.reading.specs.declared.Three.{Three}
 use Rattle.reading.specs.declared.Three.the-variants.{Numbers, Refused as ThreeRefused}
@@ -21,8 +22,6 @@ use Rattle.reading.specs.declared.HeadRead.the-variants.{Read as ReadHea
 use Rattle.reading.specs.declared.SegmentRead.{SegmentRead}
 use Rattle.reading.specs.declared.SegmentRead.the-variants.{Read as ReadSegment}
 use Rattle.reading.specs.declared.SegmentRead.the-variants.{Refused as SegmentRefused}
-use Rattle.reading.specs.declared.Segmented.{Segmented}
-use Rattle.reading.specs.declared.Segmented.the-variants.{All, Refused as SegmentsRefused}
 use Rattle.reading.specs.declared.ReadAnswer.{ReadAnswer}
 use Rattle.reading.specs.declared.ReadAnswer.the-variants.{Read, Refused as ReadRefused}
 
@@ -55,20 +54,19 @@ headingOf posts source p q count =
     andThen (tripleOf posts source p) (λ t _. andThen (saysNumbered q) (λ d _. andThen (saysNumbered count) (λ m next.
     got (record { head = record { posts = t .one; source = t .two; p = t .three; q = d }; count = m }) next)))
 
+-- three numbers as a segment
+abbrev pub segmentFrom : Triple → Segment
+segmentFrom t = record { a = t .one; b = t .two; length = t .three }
+
+-- segment i of three numbers: 5, 6, 7, or the segment
+unfoldable pub segmentOf : Got Triple → ℕ → ℕ → Got Segment
+segmentOf g posts i =
+    andThen g (λ t at. andThen (unless (first (segmentLines posts (segmentFrom t) i)) at) (λ _ at.
+    got (segmentFrom t) at))
+
 abbrev pub segmentReadOf : Got Segment → SegmentRead
 segmentReadOf (got s next) = ReadSegment s next
 segmentReadOf (refused r) = SegmentRefused r
-
--- the place after some segments
-abbrev pub segmentedOf : Got (List Segment) → Segmented
-segmentedOf (got ss next) = All next
-segmentedOf (refused r) = SegmentsRefused r
-
--- the answer r for some segments, and three lists in which they stand side by side; after a refusal nothing is said
--- of the lists
-pub record SegmentsIn (g : Got (List Segment)) (r : Segmented) (a b l : List ℕ) : Type 0 where
-  pub answers : r ≡ segmentedOf g
-  pub stored : (ss : List Segment) (next : ℕ) → g ≡ got ss next → segmentsOf a b l ≡ ss
 
 -- A RECORD: the head of the net that was read and how many segments it has, or the refusal
 abbrev pub readAnswer : Got Net → ReadAnswer

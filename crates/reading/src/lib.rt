@@ -1,10 +1,10 @@
 // The record of a net, a row of the numbers of the crate `numbers`: its reader. Everything is refused as document 01's
 // table says, in its order: the five head numbers (10, 11), 1 to 4, 8, then for each segment 10, 11, 5, 6, 7, then 12.
-// A reader carries the bytes from number to number, in one pass; where a number is refused it stays, and the first
-// refusal is the answer. What is read stands in three plain lists side by side. `read_in` reads into lists to work in;
-// `read` lays a good record's segments over lent lists, and nothing before the whole record is found good;
-// `check_record` only says whether it is. Relies on `checks`, on `numbers`, and for the laws about both ways, in
-// proofs/, on `writing`.
+// One reader carries the bytes from number to number through the whole record; where a number is refused it stays, and
+// the first refusal is the answer. What is read stands in three plain lists side by side. `read_in`, where the reader is
+// made, reads into lists to work in; `read` lays a good record's segments over lent lists, and nothing before the whole
+// record is found good; `check_record` only says whether it is. Relies on `checks`, on `numbers` and, for the walks
+// over a reader, on `by_hand`; for the laws about both ways, in proofs/, on `writing`.
 use checks::check_head;
 use checks::check_numbers;
 use checks::segment_count;
@@ -14,6 +14,7 @@ use net::MOST_SEGMENTS;
 use net::Refusal;
 use net::Segment;
 use numbers::Numbered;
+use numbers::reader::Reader;
 use numbers::reader::behind;
 use numbers::reader::moved;
 use numbers::reader::new;
@@ -21,13 +22,14 @@ use numbers::reader::number;
 ghost use mathlib.Core.Path.{_≡_};
 ghost use Prim.Native.Nat.{_<_, _≤_};
 ghost use mathlib.Core.List.{_++_};
-ghost use mathlib.Core.Option.{none};
 ghost use lib.ListN.{length, drop};
 ghost use Rattle.net.specs.Net.{mostPosts, mostSegments};
-ghost use Rattle.net.specs.Refusals.{refusal, first, headLines};
-ghost use Rattle.reading.specs.Reading.{triple, heading, segment, segments, restRead, netRead};
+ghost use Rattle.net.specs.Refusals.{refusal};
+ghost use Rattle.reading.specs.Reading.{heading, segment, netRead};
 ghost use Rattle.reading.specs.Answers.{Placeable, threeOf, tripleOf, headReadOf, headingOf, segmentReadOf};
-ghost use Rattle.reading.specs.Answers.{segmentedOf, SegmentsIn, ReadIn, ReadsLists, checkRead};
+ghost use Rattle.reading.specs.Answers.{segmentOf, ReadIn, ReadsLists, checkRead};
+ghost use Rattle.reading.specs.Turns.{postsIn, countIn, headEnds, headSays};
+ghost use Rattle.reading.specs.Turns.{goesOn, segmentEnds, Stores, answerOf};
 
 // Three numbers in a row and the place after them, or the refusal.
 enum Three {
@@ -44,12 +46,6 @@ enum HeadRead {
 // A segment and the place after it, or the refusal.
 enum SegmentRead {
     Read { segment: Segment, next: usize },
-    Refused(Refusal),
-}
-
-// The place after all segments, or the refusal.
-enum Segmented {
-    All(usize),
     Refused(Refusal),
 }
 
@@ -87,20 +83,6 @@ fn three_of(first: Numbered, second: Numbered, third: Numbered) -> Three
     }
 }
 
-// Three numbers in a row, from the byte `at` on, which lies within what a record can be long.
-fn three_at(bytes: &[u8], at: usize) -> Three
-    requires { ⌜ at ≤ 1000000 ⌝ }
-    ensures { λ r. ⌜ r ≡ threeOf (triple (now (bytes .entry)) at) ⌝ }
-{
-    let at_first = moved(new(bytes), at);
-    let first = number(at_first);
-    let at_second = moved(at_first, behind(first));
-    let second = number(at_second);
-    let at_third = moved(at_second, behind(second));
-    let third = number(at_third);
-    three_of(first, second, third)
-}
-
 // The head of five numbers, or the first refusal among them.
 fn head_of(posts: Numbered, source: Numbered, p: Numbered, q: Numbered, count: Numbered) -> HeadRead
     requires { ⌜ Placeable posts × (Placeable source × (Placeable p × (Placeable q × Placeable count))) ⌝ }
@@ -128,13 +110,13 @@ fn head_of(posts: Numbered, source: Numbered, p: Numbered, q: Numbered, count: N
     }
 }
 
-// "post count, source, p, q, segment count"
-fn head_at(bytes: &[u8]) -> HeadRead
-    ensures { λ r. ⌜ r ≡ headReadOf (heading (now (bytes .entry)) 0) ⌝ }
+// "post count, source, p, q, segment count", from the reader's place on, which lies within what a record can be long.
+fn head_at<'a>(r: Reader<'a>) -> HeadRead
+    requires { ⌜ r .at ≤ 1000000 ⌝ }
+    ensures { λ h. ⌜ h ≡ headReadOf (heading (now (r .entry .bytes)) (r .entry .at)) ⌝ }
 {
-    let at_posts = new(bytes);
-    let posts = number(at_posts);
-    let at_source = moved(at_posts, behind(posts));
+    let posts = number(r);
+    let at_source = moved(r, behind(posts));
     let source = number(at_source);
     let at_p = moved(at_source, behind(source));
     let p = number(at_p);
@@ -145,16 +127,23 @@ fn head_at(bytes: &[u8]) -> HeadRead
     head_of(posts, source, p, q, count)
 }
 
-// Segment `i`: "its two posts in the order given and its length", then 5, 6, 7.
-fn segment_at(bytes: &[u8], at: usize, posts: u32, i: u32) -> SegmentRead
-    requires { ⌜ (at ≤ 1000000) × (posts ≤ mostPosts) ⌝ }
-    ensures { λ r. ⌜ r ≡ segmentReadOf (segment (now (bytes .entry)) posts i at) ⌝ }
+// Segment `i` of three numbers in a row: "its two posts in the order given and its length", then 5, 6, 7.
+fn segment_of(
+    first: Numbered,
+    second: Numbered,
+    third: Numbered,
+    posts: u32,
+    i: usize,
+) -> SegmentRead
+    requires { ⌜
+        Placeable first × (Placeable second × Placeable third) × (posts ≤ mostPosts) × (i ≤ mostSegments) ⌝ }
+    ensures { λ r. ⌜ r ≡ segmentReadOf (segmentOf (tripleOf first second third) posts i) ⌝ }
 {
-    let three = three_at(bytes, at);
+    let three = three_of(first, second, third);
     match three {
         Three::Refused(r) => SegmentRead::Refused(r),
         Three::Numbers { a, b, c, next } => {
-            let checked = check_numbers(posts, a, b, c, i);
+            let checked = check_numbers(posts, a, b, c, i as u32);
             match checked {
                 Checked::Refused(r) => SegmentRead::Refused(r),
                 Checked::Sound => SegmentRead::Read {
@@ -170,114 +159,150 @@ fn segment_at(bytes: &[u8], at: usize, posts: u32, i: u32) -> SegmentRead
     }
 }
 
-// Reads as many segments as three equally long lists have places, from the byte `at` on, and stores each.
-fn segments_into(
-    bytes: &[u8],
-    at: usize,
-    posts: u32,
-    a: &mut [u16],
-    b: &mut [u16],
-    lengths: &mut [u32],
-) -> Segmented
-    requires { ⌜
-        (at ≤ 20) × (posts ≤ mostPosts) × (length (now a) ≤ mostSegments)
-        × (length (now b) ≡ length (now a)) × (length (now lengths) ≡ length (now a)) ⌝ }
-    ensures { λ r. ⌜
-        SegmentsIn (segments (now (bytes .entry)) posts 0 (length (now (a .entry))) at)
-        r (now (a .exit)) (now (b .exit)) (now (lengths .exit)) ⌝ }
+// Segment `i`, from the reader's place on.
+fn segment_at<'a>(r: Reader<'a>, posts: u32, i: usize) -> SegmentRead
+    requires { ⌜ (r .at ≤ 1000000) × (posts ≤ mostPosts) × (i ≤ mostSegments) ⌝ }
+    ensures { λ s. ⌜ s ≡ segmentReadOf (segment (now (r .entry .bytes)) posts i (r .entry .at)) ⌝ }
 {
-    let mut next = at;
-    let mut i = 0;
-    while i < a.len() {
-        let one = segment_at(bytes, next, posts, i as u32);
-        match one {
-            SegmentRead::Refused(r) => return Segmented::Refused(r),
-            SegmentRead::Read {
-                segment,
-                next: after,
-            } => {
-                a[i] = segment.a;
-                b[i] = segment.b;
-                lengths[i] = segment.length;
-                next = after;
-                i += 1;
-            }
-        }
-    }
-    Segmented::All(next)
+    let first = number(r);
+    let at_second = moved(r, behind(first));
+    let second = number(at_second);
+    let at_third = moved(at_second, behind(second));
+    let third = number(at_third);
+    segment_of(first, second, third, posts, i)
 }
 
-// The segments and 12, behind a head that ends at `at` and that 1 to 4 let pass.
-fn segments_in(
-    bytes: &[u8],
-    head: Head,
-    count: u32,
-    at: usize,
-    a: &mut [u16],
-    b: &mut [u16],
-    lengths: &mut [u32],
-) -> ReadAnswer
-    requires { ⌜
-        (at ≤ 20) × (first (headLines head count) ≡ none)
-        × (length (now a) ≡ mostSegments) × (length (now b) ≡ mostSegments) × (length (now lengths) ≡ mostSegments) ⌝ }
-    ensures { λ r. ⌜
-        ReadIn (restRead (now (bytes .entry)) count (record { head = head; count = count }) at)
-        r (now (a .exit)) (now (b .exit)) (now (lengths .exit)) ⌝ }
+// How many posts a head says; none where it was refused.
+fn posts_of(head: HeadRead) -> u32
+    ensures { λ r. ⌜ r ≡ postsIn head ⌝ }
 {
-    let m = count as usize;
-    let posts = head.posts;
-    let segmented = segments_into(
-        bytes,
-        at,
-        posts,
-        &mut a[..m],
-        &mut b[..m],
-        &mut lengths[..m],
-    );
-    match segmented {
-        Segmented::Refused(r) => ReadAnswer::Refused(r),
-        Segmented::All(next) => {
-            if next < bytes.len() {
-                return ReadAnswer::Refused(refusal_at(12, next));
-            }
-            ReadAnswer::Read { head, count }
-        }
+    match head {
+        HeadRead::Read {
+            head: h,
+            count: _,
+            next: _,
+        } => h.posts,
+        HeadRead::Refused(_) => 0,
     }
 }
 
-// The rest of the record, behind a head that ends at `at`: 1 to 4, 8 for `room` segments, the segments, 12.
-fn rest_in(
-    bytes: &[u8],
-    room: usize,
-    head: Head,
-    count: u32,
-    at: usize,
-    a: &mut [u16],
-    b: &mut [u16],
-    lengths: &mut [u32],
-) -> ReadAnswer
-    requires { ⌜
-        (at ≤ 20) × (length (now a) ≡ mostSegments) × (length (now b) ≡ mostSegments)
-        × (length (now lengths) ≡ mostSegments) ⌝ }
-    ensures { λ r. ⌜
-        ReadIn (restRead (now (bytes .entry)) room (record { head = head; count = count }) at)
+// How many segments a head says; none where it was refused.
+fn count_of(head: HeadRead) -> usize
+    ensures { λ r. ⌜ r ≡ countIn head ⌝ }
+{
+    match head {
+        HeadRead::Read {
+            head: _,
+            count,
+            next: _,
+        } => count as usize,
+        HeadRead::Refused(_) => 0,
+    }
+}
+
+// Where the reader goes on behind a head; where it was refused, it stays at the record's first byte.
+fn after_head(head: HeadRead) -> usize
+    ensures { λ r. ⌜ r ≡ headEnds head ⌝ }
+{
+    match head {
+        HeadRead::Read {
+            head: _,
+            count: _,
+            next,
+        } => next,
+        HeadRead::Refused(_) => 0,
+    }
+}
+
+// What refuses a head: 10, 11, then 1 to 4, then 8 for `room` segments.
+fn head_says(head: HeadRead, room: usize) -> Checked
+    ensures { λ r. ⌜ r ≡ headSays head room ⌝ }
+{
+    match head {
+        HeadRead::Refused(r) => Checked::Refused(r),
+        HeadRead::Read {
+            head: h,
+            count,
+            next: _,
+        } => {
+            let m = count as usize;
+            let checked = check_head(h, m);
+            match checked {
+                Checked::Refused(r) => Checked::Refused(r),
+                Checked::Sound => {
+                    if room < m {
+                        return Checked::Refused(refusal_at(8, 0));
+                    }
+                    Checked::Sound
+                }
+            }
+        }
+    }
+}
+
+// There is a segment `i` to be read: nothing was refused so far, and it is one of `count`.
+fn goes_on(says: Checked, i: usize, count: usize) -> bool
+    ensures { λ r. ⌜ r ≡ goesOn says i count ⌝ }
+{
+    match says {
+        Checked::Sound => i < count,
+        Checked::Refused(_) => false,
+    }
+}
+
+// Where the reader goes on behind a segment that begins at `at`; where it was refused, it stays.
+fn after_segment(one: SegmentRead, at: usize) -> usize
+    ensures { λ r. ⌜ r ≡ segmentEnds one at ⌝ }
+{
+    match one {
+        SegmentRead::Read { segment: _, next } => next,
+        SegmentRead::Refused(_) => at,
+    }
+}
+
+// Stores segment `i` at its place of three lists; or hands on its refusal.
+fn store(one: SegmentRead, i: usize, a: &mut [u16], b: &mut [u16], lengths: &mut [u32]) -> Checked
+    requires { ⌜ (i < length (now a)) × (i < length (now b)) × (i < length (now lengths)) ⌝ }
+    ensures { λ r. ⌜ Stores one i (now (a .entry)) (now (b .entry)) (now (lengths .entry))
         r (now (a .exit)) (now (b .exit)) (now (lengths .exit)) ⌝ }
 {
-    let m = count as usize;
-    let checked = check_head(head, m);
-    match checked {
+    match one {
+        SegmentRead::Refused(r) => Checked::Refused(r),
+        SegmentRead::Read { segment, next: _ } => {
+            a[i] = segment.a;
+            b[i] = segment.b;
+            lengths[i] = segment.length;
+            Checked::Sound
+        }
+    }
+}
+
+// The answer for a record of `end` bytes whose head and segments were read up to `at`: their refusal, 12, or the head.
+fn answer(says: Checked, head: HeadRead, at: usize, end: usize) -> ReadAnswer
+    requires { ⌜ at < 4294967296 ⌝ }
+    ensures { λ r. ⌜ r ≡ answerOf says head at end ⌝ }
+{
+    match says {
         Checked::Refused(r) => ReadAnswer::Refused(r),
         Checked::Sound => {
-            if room < m {
-                return ReadAnswer::Refused(refusal_at(8, 0));
+            if at < end {
+                return ReadAnswer::Refused(refusal_at(12, at));
             }
-            segments_in(bytes, head, count, at, a, b, lengths)
+            match head {
+                HeadRead::Refused(r) => ReadAnswer::Refused(r),
+                HeadRead::Read {
+                    head: h,
+                    count,
+                    next: _,
+                } => ReadAnswer::Read { head: h, count },
+            }
         }
     }
 }
 
 // Reads a record whose net has at most `room` segments into lists to work in, of 2,048 places each: the net's
-// segments stand at their fronts, or the answer is the refusal.
+// segments stand at their fronts, or the answer is the refusal. One reader goes from the record's first byte through
+// the head and from segment to segment, and at the end its place says whether bytes are left.
 pub fn read_in(
     bytes: &[u8],
     room: usize,
@@ -291,13 +316,20 @@ pub fn read_in(
     ensures reads { λ r. ⌜
         ReadIn (netRead (now (bytes .entry)) room 0) r (now (a .exit)) (now (b .exit)) (now (lengths .exit)) ⌝ }
 {
-    let read = head_at(bytes);
-    match read {
-        HeadRead::Refused(r) => ReadAnswer::Refused(r),
-        HeadRead::Read { head, count, next } => {
-            rest_in(bytes, room, head, count, next, a, b, lengths)
-        }
+    let mut r = new(bytes);
+    let head = head_at(r);
+    let posts = posts_of(head);
+    let count = count_of(head);
+    let mut says = head_says(head, room);
+    r = moved(r, after_head(head));
+    let mut i = 0;
+    while goes_on(says, i, count) {
+        let one = segment_at(r, posts, i);
+        r = moved(r, after_segment(one, r.at));
+        says = store(one, i, a, b, lengths);
+        i += 1;
     }
+    answer(says, head, r.at, bytes.len())
 }
 
 // Lays three lists over the fronts of three lent ones; the entries beyond stay as they were.
