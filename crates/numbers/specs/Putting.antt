@@ -1,6 +1,7 @@
 -- Bytes put into a room, and the part that a number's writer hands back. Relies on `Numbers`; the record's writing
 -- stands on it.
-use Prim.Native.Nat.{ℕ, _+_}
+use Prim.Native.Nat.{ℕ, _+_, _<_}
+use mathlib.Core.Path.{_≡_}
 use mathlib.Core.Bool.{_&&_, cond}
 use mathlib.Core.List.{List, [], _++_}
 use lib.Dec.{ltb, leb}
@@ -19,3 +20,8 @@ put i s l = take i l ++ (s ++ drop (i + length s) l)
 -- room is too short
 unfoldable pub partOf : ℕ → List ℕ → List ℕ
 partOf n l = cond (ltb n mostNumbers && leb (length (written n)) (length l)) (written n) []
+
+-- a number of at most four groups, and a room that is just as long as it
+pub record Fits (n : ℕ) (l : List ℕ) : Type 0 where
+  pub few : n < mostNumbers
+  pub long : length l ≡ length (written n)

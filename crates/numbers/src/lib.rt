@@ -2,15 +2,16 @@
 // last." Reading one at a place, putting one into a room, and a reader that carries the record and its place from
 // number to number. What each function promises is an equation with a definition of specs/; that a number's bytes read
 // as that number, and no others do, stands in proofs/. Relies on `net` for what a refusal is, and on `by_hand` for the
-// walks over a reader. The crates `writing` and `reading` stand on it; `fill_number` and `put_at` ask that the number
-// fits, and nothing else here asks anything.
+// walks over a reader. The crates `writing` and `reading` stand on it; `fill_number`, `put_part` and `put_at` ask that
+// the number fits, and nothing else here asks anything.
 pub mod reader;
 
 ghost use mathlib.Core.Path.{_≡_};
 ghost use Prim.Native.Nat.{_+_, _%_, _<_, _≤_};
 ghost use lib.ListN.{length};
 ghost use Rattle.numbers.specs.Numbers.{number, written, mostNumbers};
-ghost use Rattle.numbers.specs.Putting.{onto, put, partOf};
+ghost use denote.Ref.{at-last};
+ghost use Rattle.numbers.specs.Putting.{onto, put, partOf, Fits};
 ghost use Rattle.numbers.specs.Answers.{numberedOf};
 
 // The largest number of four groups.
@@ -108,26 +109,43 @@ fn fill_number(room: &mut [u8], n: u32) -> usize
     k + 1
 }
 
-// Writes a number into the rest of the room, from the byte `at` on: the next free byte.
-pub fn put_at(room: &mut [u8], at: usize, n: u32) -> usize
-    requires { ⌜ (n < mostNumbers) × (at + length (written n) ≤ length (now room)) ⌝ }
-    ensures put { λ r. ⌜ (r ≡ at + length (written n)) × (now (room .exit) ≡ put at (written n) (now (room .entry))) ⌝ }
-{
-    let size = fill_number(&mut room[at..], n);
-    at + size
-}
-
-// Writes a number from the first byte of `room` on, and hands back the part that it wrote: the number's bytes.
-// Where the number has more than four groups or the room is too short, nothing is written and the part is empty.
+// Writes a number from the first byte of `room` on, and hands back the part that it wrote: the number's bytes. Where
+// the number has more than four groups or the room is too short, nothing is written and the part is empty. Where the
+// room is as long as the number, the part is the room itself, so that its lender knows every byte afterwards.
 pub fn put_number<'a>(room: &'a mut [u8], n: u32) -> &'a mut [u8]
     ensures handed { λ r. ⌜ now r ≡ partOf n (now (room .entry)) ⌝ }
+    ensures whole { λ r. ⌜ (Fits n (now (room .entry)) → r ≡ at-last (room .entry) (written n)) ⌝ }
 {
     if MOST_NUMBER < n {
         return &mut room[..0];
     }
-    if room.len() < number_size(n) {
+    let size = number_size(n);
+    if room.len() < size {
         return &mut room[..0];
     }
-    let size = fill_number(room, n);
+    fill_number(room, n);
+    if room.len() == size {
+        return room;
+    }
     &mut room[..size]
+}
+
+// Writes a number into a part that is as long as the number: the length of the part that `put_number` hands back.
+fn put_part(part: &mut [u8], n: u32) -> usize
+    requires { ⌜ Fits n (now part) ⌝ }
+    ensures { λ r. ⌜ (r ≡ length (written n)) × (now (part .exit) ≡ written n) ⌝ }
+{
+    let written = put_number(part, n);
+    written.len()
+}
+
+// Writes a number into the rest of the room, into the part that starts at the byte `at`: the next free byte, behind the
+// part that was written.
+pub fn put_at(room: &mut [u8], at: usize, n: u32) -> usize
+    requires { ⌜ (n < mostNumbers) × (at + length (written n) ≤ length (now room)) ⌝ }
+    ensures put { λ r. ⌜ (r ≡ at + length (written n)) × (now (room .exit) ≡ put at (written n) (now (room .entry))) ⌝ }
+{
+    let end = at + number_size(n);
+    let size = put_part(&mut room[at..end], n);
+    at + size
 }

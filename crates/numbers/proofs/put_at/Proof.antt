@@ -1,46 +1,52 @@
--- `put_at` meets its contract: what `fill_number` puts at the front of the part stands at `at` in the room. Assumes nothing.
-use Prim.Native.Nat.{_+_}
-use mathlib.Core.Path.{ap}
-use native.Mathlib.Omega.{arith}
+-- `put_at` meets its contract: what `put_part` puts into the part stands at `at` in the room. Assumes nothing.
 use borrow.Author.Needs.{needs}
+use Prim.Native.Nat.{ℕ, _+_}
+use mathlib.Core.Path.{ap}
 use Rattle.numbers.specs.Numbers.{written}
-use Rattle.numbers.proofs.Parts.{part-length, put-part}
+use Rattle.numbers.proofs.Parts.{put-filled}
 use Rattle.numbers.proofs.put_at.Statement.{statement}
 use Rattle.numbers.proofs.put_at.Tie as tie
 
-sub-fill-number : tie.Need-sub-fill-number
-sub-fill-number c = search needs
+number-size-requires : tie.Need-number-size-requires
+number-size-requires c κs = search needs
 
-part-fill-number-start : tie.Need-part-fill-number-start
-part-fill-number-start c = search needs
+add-end : tie.Need-add-end
+add-end c = search needs
 
-part-fill-number-end : tie.Need-part-fill-number-end
-part-fill-number-end c = search needs
+sub-put-part : tie.Need-sub-put-part
+sub-put-part c = search needs
 
-fill-number-requires : tie.Need-fill-number-requires
-fill-number-requires c κs = (c .before .before .pre .0, omega (arith, c .before .before .pre .1, part-length (c .before .before .args .room .now) (c .before .before .args .at) (omega arith)))
+part-put-part-start : tie.Need-part-put-part-start
+part-put-part-start c = search needs
+
+part-put-part-end : tie.Need-part-put-part-end
+part-put-part-end c = search needs
+
+put-part-requires : tie.Need-put-part-requires
+put-part-requires c κs = search needs
 
 add-result : tie.Need-add-result
-add-result c = omega (arith, c .before .before .fill-number .ensures .0, c .before .before .before .before .before .pre .1)
+add-result c = search needs
 
 same-length : tie.Need-same-length
 same-length c = search needs
 
 returns : tie.Need-returns
-returns c = (
-  ap (λ x. c .before .before .before .before .before .args .at + x) (c .before .before .fill-number .ensures .0),
-  put-part (c .before .before .before .before .before .args .room .now) (c .before .before .before .before .before .args .at) (omega (arith, c .before .before .before .before .before .pre .1)) (written (c .before .before .before .before .before .args .n)) _
-      (c .before .before .fill-number .ensures .1),
-)
+returns c =
+    let z = c .before .before .before .before .before .before .args in
+    let p = c .before .before .put-part .ensures in
+    (ap (λ (x : ℕ). z .at + x) (p .0), put-filled (z .room .now) (z .at) (written (z .n)) (p .1) (c .before .before .before .before .number-size .ensures .0))
 
 pub put-at-spec : {M : Type 1} → statement M
 put-at-spec =
     tie.close
     (tie.spec
-    sub-fill-number
-    part-fill-number-start
-    part-fill-number-end
-    fill-number-requires
+    number-size-requires
+    add-end
+    sub-put-part
+    part-put-part-start
+    part-put-part-end
+    put-part-requires
     add-result
     same-length
     returns)
