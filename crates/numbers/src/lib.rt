@@ -113,8 +113,8 @@ fn fill_number(room: &mut [u8], n: u32) -> usize
 // the number has more than four groups or the room is too short, nothing is written and the part is empty. Where the
 // room is as long as the number, the part is the room itself, so that its lender knows every byte afterwards.
 pub fn put_number<'a>(room: &'a mut [u8], n: u32) -> &'a mut [u8]
-    ensures handed { λ r. ⌜ now r ≡ partOf n (now (room .entry)) ⌝ }
-    ensures whole { λ r. ⌜ (Fits n (now (room .entry)) → r ≡ at-last (room .entry) (written n)) ⌝ }
+    ensures handed { λ r. ⌜ (now r ≡ partOf n (now (room .entry)))
+        × (Fits n (now (room .entry)) → r ≡ at-last (room .entry) (written n)) ⌝ }
 {
     if MOST_NUMBER < n {
         return &mut room[..0];

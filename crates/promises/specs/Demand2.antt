@@ -30,7 +30,8 @@ use Rattle.net.specs.Building.{built, lightestOf, leastLengthsOf, shortestOf, b
 use Rattle.net.specs.Building as B
 use Rattle.net.specs.Ready.{netBy}
 use Rattle.crossings.specs.Lists.{netOn}
-use Rattle.building.specs.Answers.{saysOf}
+use Rattle.building.specs.Answers.{saysOf, Leaves}
+use Rattle.building.specs.declared.Answer.{Answer}
 use Rattle.margins.specs.Answers.{marginSaysOf}
 use Rattle.margins.specs.declared.MarginAnswer.{MarginAnswer}
 use Rattle.numbers.specs.Numbers.{Bytes, got}

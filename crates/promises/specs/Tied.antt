@@ -5,7 +5,7 @@
 -- holds at the call.
 use mathlib.Core.Path.{_≡_}
 use lib.ListN.{length}
-use denote.Ref.{now}
+use denote.Ref.{now, at-last}
 use Rattle.net.specs.Net.{every, mostSegments}
 use Rattle.net.specs.Ready.{netBy, segmentsBy, countBy}
 use Rattle.net.specs.Refusals.{checkedOf, first, headLines, segmentLines, checkOf}
@@ -15,7 +15,7 @@ use Rattle.building.specs.Answers.{Leaves}
 use Rattle.margins.specs.Answers.{marginAnswerOf}
 use Rattle.numbers.specs.Numbers.{number, written}
 use Rattle.numbers.specs.Answers.{numberedOf, behindOf}
-use Rattle.numbers.specs.Putting.{partOf}
+use Rattle.numbers.specs.Putting.{partOf, Fits}
 use Rattle.reading.specs.Reading.{netRead}
 use Rattle.reading.specs.Answers.{ReadsLists, checkRead}
 use Rattle.writing.specs.Answers.{Writes}
@@ -79,7 +79,8 @@ pub record Tied : Type 2 where
   -- a number of a record, and a reader of it
   pub number-at : Keeps entry.number-at (λ κs (bytes, (at, _)) r _. r ≡ numberedOf (number (now bytes) at))
   pub number-size : Keeps entry.number-size (λ κs (n, _) r _. r ≡ length (written n))
-  pub put-number : Keeps entry.put-number (λ κs (room, (n, _)) r _. now r ≡ partOf n (now room))
+  pub put-number : Keeps entry.put-number (λ κs (room, (n, _)) r _. (now r ≡ partOf n (now room))
+      × (Fits n (now room) → r ≡ at-last room (written n)))
   pub reader-new : Keeps entry.reader-new (λ κs (bytes, _) r _. r ≡ record { bytes = bytes; at = 0 })
   pub reader-number : Keeps entry.reader-number (λ κs (r, _) n _. n ≡ numberedOf (number (now (r .bytes)) (r .at)))
   pub reader-moved : Keeps entry.reader-moved (λ κs (r, (at, _)) q _. q ≡ record { bytes = r .bytes; at = at })
