@@ -1,20 +1,13 @@
--- TWO OUTCOMES that a contract allows are equal, for each function for C: `check-one`, `plan-one`, `rewrite-one`, `margin-one`, `drawn-one`. And a packed refusal
+-- TWO OUTCOMES that a contract allows are equal, for the functions for C: `plan-one`, `rewrite-one`, `margin-one`; the others' contracts are equations. And a packed refusal
 -- says no less than the refusal: equal numbers come from equal refusals (`packed-same`, `marked-same`), and no length is a marked refusal's number.
-use mathlib.Core.Path.{_≡_, refl, sym, ap, _∙_}
+use mathlib.Core.Path.{_≡_, sym, _∙_}
 use mathlib.Core.List.{List}
 use Prim.Native.Nat.{ℕ, _+_, _*_, _^_, _<_}
 use native.Mathlib.Omega.{arith}
 use lib.IntN.{ℤ}
 use Rattle.net.specs.declared.Refusal.{Refusal}
-use Rattle.drawn.specs.Drawn.{drawnOf}
-use Rattle.reading.specs.Answers.{checkRead}
-use Rattle.on_records.specs.Asked.{recordRead}
-use Rattle.c_numbers.specs.Named.{packed, marked, runNamed}
-use Rattle.c_calls.specs.Numbers.{checkNumber, drawnNumber}
+use Rattle.c_numbers.specs.Named.{packed, marked}
 use Rattle.c_calls.specs.Left.{PlanLeaves, RewriteLeaves, MarginLeaves}
-
-pub check-one : (bytes : List ℕ) {r r₂ : ℕ} → r ≡ checkNumber (checkRead (recordRead bytes)) → r₂ ≡ checkNumber (checkRead (recordRead bytes)) → r ≡ r₂
-check-one bytes p q = p ∙ sym q
 
 -- planning: the number, the three lists and the summary
 pub record SamePlan (r r₂ : ℕ) (l l₂ s s₂ w w₂ d d₂ : List ℕ) : Type 0 where
@@ -43,10 +36,6 @@ rewrite-one bytes room p q = (p .number ∙ sym (q .number), p .room-after ∙ s
 pub margin-one : (bytes : List ℕ) (tree post : ℕ) (d : List ℤ) {r r₂ : ℕ} {x x₂ : List ℤ} → MarginLeaves bytes tree post d r x → MarginLeaves bytes tree post d r₂ x₂
     → (r ≡ r₂) × (x ≡ x₂)
 margin-one bytes tree post d p q = (p .number ∙ sym (q .number), p .list ∙ sym (q .list))
-
-pub drawn-one : (corner first second : ℕ) {r r₂ : ℕ} → r ≡ drawnNumber (drawnOf (runNamed corner first second)) → r₂ ≡ drawnNumber (drawnOf (runNamed corner first second))
-    → r ≡ r₂
-drawn-one corner first second p q = p ∙ sym q
 
 -- WHAT A PACKED REFUSAL SAYS, for a place of 32 bits
 number-same : (n p m q : ℕ) → p < 2 ^ 32 → q < 2 ^ 32 → n * 2 ^ 32 + p ≡ m * 2 ^ 32 + q → (n ≡ m) × (p ≡ q)

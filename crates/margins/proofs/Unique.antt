@@ -1,5 +1,4 @@
--- TWO OUTCOMES that the contract of margin allows are equal (`margin-one`); and an answer of the code says neither more nor less than one of document 01
--- (`says-margin-answer`, `margin-answer-says`).
+-- An answer of the code says neither more nor less than one of document 01 (`says-margin-answer`, `margin-answer-says`).
 use mathlib.Core.Path.{_≡_, refl, sym, _∙_}
 use Prim.Native.Nat.{ℕ}
 use Rattle.net.specs.Net.{Net, every}
@@ -9,9 +8,6 @@ use Rattle.net.specs.declared.Tree.{Tree}
 use Rattle.margins.specs.Answers.{marginAnswerOf, marginSaysOf}
 use Rattle.margins.specs.declared.MarginAnswer.{MarginAnswer}
 use Rattle.margins.specs.declared.MarginAnswer.the-variants.{Margin, Refused as Unmeasured}
-
-pub margin-one : (n : Net) (m : ℕ) (t : Tree) (post : ℕ) {x y : MarginAnswer} → x ≡ marginAnswerOf (marginOf every n m t post) → y ≡ marginAnswerOf (marginOf every n m t post) → x ≡ y
-margin-one n m t post p q = p ∙ sym q
 
 -- WHAT AN ANSWER SAYS
 pub says-margin-answer : (x : B.MarginAnswer) → marginSaysOf (marginAnswerOf x) ≡ x

@@ -1,8 +1,7 @@
--- TWO OUTCOMES that a contract allows are equal, for each function on records: `plan-one`, `rewrite-one`, `margin-one`, `check-one`. And what an answer says in
+-- TWO OUTCOMES that a contract allows are equal, for the functions on records: `plan-one`, `rewrite-one`; the others' contracts are equations. And what an answer says in
 -- document 01's terms is what reading and then building, writing or margin say (`plan-says`, `rewrite-says`, `margin-says`, `check-says`).
 use mathlib.Core.Path.{_≡_, refl, sym, ap, _∙_}
 use mathlib.Core.List.{List}
-use mathlib.Core.Option.{Option, none, some}
 use Prim.Native.Nat.{ℕ}
 use lib.ListN.{length}
 use Rattle.net.specs.Net.{Net, every}
@@ -44,12 +43,6 @@ plan-one bytes l s w x y =
 -- writing again: the answer and the room
 pub rewrite-one : (bytes room : List ℕ) {r r₂ : WriteAnswer} {x x₂ : List ℕ} → Rewrites bytes room r x → Rewrites bytes room r₂ x₂ → (r ≡ r₂) × (x ≡ x₂)
 rewrite-one bytes room p q = (p .answers ∙ sym (q .answers), p .leaves ∙ sym (q .leaves))
-
-pub margin-one : (bytes : List ℕ) (t : Tree) (post : ℕ) {r r₂ : MarginAnswer} → r ≡ marginRead bytes t post → r₂ ≡ marginRead bytes t post → r ≡ r₂
-margin-one bytes t post p q = p ∙ sym q
-
-pub check-one : (bytes : List ℕ) {r r₂ : Checked} → r ≡ checkRead (recordRead bytes) → r₂ ≡ checkRead (recordRead bytes) → r ≡ r₂
-check-one bytes p q = p ∙ sym q
 
 -- WHAT AN ANSWER SAYS
 says-built : (h : Head) (m : ℕ) (x : BuildAnswer) → saysPlanned (plannedWith h m x) ≡ builtSaid h m x

@@ -198,16 +198,10 @@ fn relax(
     while c > 0 {
         let i = (c - 1) / 2;
         if present[i] {
-            offer(
-                posts,
-                u,
-                hanging::at16(a, i),
-                hanging::at16(b, i),
-                du + net::plain::wide(hanging::at32(weights, i)),
-                settled,
-                dist,
-                ladder,
-            );
+            let x = hanging::at16(a, i);
+            let y = hanging::at16(b, i);
+            let far = du + net::plain::wide(hanging::at32(weights, i));
+            offer(posts, u, x, y, far, settled, dist, ladder);
         }
         c = hanging::at16(next, c);
     }
@@ -229,10 +223,8 @@ pub fn search(
     requires { ⌜ Sides posts (now a) (now b) (now weights) (now present) ⌝ }
     requires { ⌜ IndexOf posts (now a) (now b) (now first) (now next) ⌝ }
     requires { ⌜ (source < posts) × (posts ≤ mostPosts) × (posts ≤ length (now dist)) ⌝ }
-    ensures least_lengths { λ _. ⌜ now (dist .exit)
-        ≡ least (segmentsBy (a .entry) (b .entry) (weights .entry))
-        (flag (now (present .entry))) (note (now (weights .entry))) posts source
-        ++ drop posts (now (dist .entry)) ⌝ }
+    ensures least_lengths { λ _. ⌜ now (dist .exit) ≡ least (segmentsBy (a .entry) (b .entry) (weights .entry))
+        (flag (now (present .entry))) (note (now (weights .entry))) posts source ++ drop posts (now (dist .entry)) ⌝ }
 {
     let mut settled = [false; MOST_POSTS];
     let mut ladder = [NONE_YET; MOST_RUNGS];

@@ -60,8 +60,8 @@ at32-requires c κs = search needs
 wide-requires : tie.Need-wide-requires Inv-loop μ-loop
 wide-requires c κs = search needs
 
-add-offer : tie.Need-add-offer Inv-loop μ-loop
-add-offer c = omega (arith, c .wide .ensures, start (c .before .before .before .before .before .before .before .before) .pre .1 .1 .0)
+add-far : tie.Need-add-far Inv-loop μ-loop
+add-far c = omega (arith, c .wide .ensures, start (c .before .before .before .before .before .before .before .before) .pre .1 .1 .0)
 
 offer-requires : tie.Need-offer-requires Inv-loop μ-loop
 offer-requires c κs =
@@ -117,7 +117,7 @@ relax-spec =
     at16-requires-3
     at32-requires
     wide-requires
-    add-offer
+    add-far
     offer-requires
     at16-requires-4
     loop-less
