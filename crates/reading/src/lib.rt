@@ -1,10 +1,10 @@
 // The record of a net, a row of the numbers of the crate `numbers`: its reader. Everything is refused as document 01's
 // table says, in its order: the five head numbers (10, 11), 1 to 4, 8, then for each segment 10, 11, 5, 6, 7, then 12.
 // One reader carries the bytes from number to number through the whole record; where a number is refused it stays, and
-// the first refusal is the answer. What is read stands in three plain lists side by side. `read_in`, where the reader is
-// made, reads into lists to work in; `read` lays a good record's segments over lent lists, and nothing before the whole
-// record is found good; `check_record` only says whether it is. Relies on `checks`, on `numbers` and, for the walks
-// over a reader, on `by_hand`; for the laws about both ways, in proofs/, on `writing`.
+// the first refusal is the answer. What is read stands in three plain lists side by side. `read_in`, where the reader
+// is made, reads into lists to work in; `read` lays a good record's segments over lent lists, and nothing before the
+// whole record is found good; `check_record` only says whether it is. Relies on `checks`, on `numbers` and, for the
+// walks over a reader, on `by_hand`; for the laws about both ways, in proofs/, on `writing`.
 use checks::check_head;
 use checks::check_numbers;
 use checks::segment_count;
