@@ -32,3 +32,5 @@ pub mod WalkRuled
 pub mod Demand
 pub mod Worked
 pub mod Ratios
+pub mod Laid
+pub mod Smallest

@@ -1,5 +1,5 @@
 -- "The ratio isn't reduced: 2/2 and 1/1 build equal trees": a net whose ratio p/q is written as (k × p)/(k × q), within the bounds, has the same trees and the
--- same laid posts, and building refuses it alike. Two walks whose tests on entering agree are one walk (`walk-alike`); the tests agree by cross products
+-- same laid posts, and building refuses it alike. Two walks whose tests on entering agree at the posts are one walk (`walk-alike`); the tests agree by cross products
 -- (`scaled-test`). Rests on nothing but the definitions.
 use mathlib.Core.Path.{_≡_, refl, sym, ap, _∙_}
 use mathlib.Core.Bool.{Bool, true, false}
@@ -24,12 +24,12 @@ use Rattle.net.specs.declared.Tree.the-variants.{Lightest, Shortest, Bet
 use Rattle.net.specs.declared.Refusal.{Refusal}
 
 -- WALKS THAT AGREE
-each-same : {S : Type 0} (m : ℕ) (f h : ℕ → S → S) (x : S) → ((i : ℕ) (y : S) → f i y ≡ h i y) → each m f x ≡ each m h x
+each-same : {S : Type 0} (m : ℕ) (f h : ℕ → S → S) (x : S) → ((i : ℕ) → i < m → (y : S) → f i y ≡ h i y) → each m f x ≡ each m h x
 each-same zero f h x e = refl
-each-same (suc m) f h x e = e m (each m f x) ∙ ap (h m) (each-same m f h x e)
+each-same (suc m) f h x e = e m (omega arith) (each m f x) ∙ ap (h m) (each-same m f h x (λ i k. e i (omega arith)))
 
-only-same : {S : Type 0} (b : Bool) (f h : S → S) (x : S) → f x ≡ h x → only b f x ≡ only b h x
-only-same true f h x e = e
+only-same : {S : Type 0} (b : Bool) (f h : S → S) (x : S) → (b ≡ true → f x ≡ h x) → only b f x ≡ only b h x
+only-same true f h x e = e refl
 only-same false f h x e = refl
 
 module _ (segs : List Segment) (n : ℕ) (walked shortest D : List ℕ) where
@@ -43,25 +43,26 @@ module _ (segs : List Segment) (n : ℕ) (walked shortest D : List ℕ) where
     lay-alike (suc k) v m =
         let u = parent segs shortest v in
         only-same (ltb (at D v) (at (m .d) v)) (λ x. try (given p q) u (entry shortest v) v (lay (given p q) k u x)) (λ x. try (given p′ q′) u (entry shortest v) v (lay (given p′ q′) k u x)) m
-        (ap (try (given p q) u (entry shortest v) v) (lay-alike k u m))
+        (λ _. ap (try (given p q) u (entry shortest v) v) (lay-alike k u m))
 
-    module _ (same : (v x y : ℕ) → ltb ((p v + q v) * x) (q v * y) ≡ ltb ((p′ v + q′ v) * x) (q′ v * y)) where
-      enter-alike : (v : ℕ) (m : Notes) → enter (given p q) v m ≡ enter (given p′ q′) v m
+    -- the tests agree at all posts that a walk from one of them comes to
+    module _ (Post : ℕ → Type 0) (same : (v : ℕ) → Post v → (x y : ℕ) → ltb ((p v + q v) * x) (q v * y) ≡ ltb ((p′ v + q′ v) * x) (q′ v * y)) where
+      enter-alike : (v : ℕ) (m : Notes) → Post v → enter (given p q) v m ≡ enter (given p′ q′) v m
       unfolding enter count
-      enter-alike v m =
-          rw (same v (at D v) (at (m .d) v))
+      enter-alike v m h =
+          rw (same v h (at D v) (at (m .d) v))
           (only-same (ltb ((p′ v + q′ v) * at D v) (q′ v * at (m .d) v)) (λ x. count (given p q) v (lay (given p q) n v x)) (λ x. count (given p′ q′) v (lay (given p′ q′) n v x)) m
-          (ap (count (given p q) v) (lay-alike n v m)))
+          (λ _. ap (count (given p q) v) (lay-alike n v m)))
 
-      pub walk-alike : (k v : ℕ) (m : Notes) → walk (given p q) k v m ≡ walk (given p′ q′) k v m
+      pub walk-alike : ((v i : ℕ) → i < length segs → child (given p q) v i ≡ true → Post (other segs i v)) → (k v : ℕ) (m : Notes) → Post v → walk (given p q) k v m ≡ walk (given p′ q′) k v m
       unfolding walk try hangBy
-      walk-alike zero v m = refl
-      walk-alike (suc k) v m =
-          rw (enter-alike v m)
+      walk-alike inside zero v m h = refl
+      walk-alike inside (suc k) v m h =
+          rw (enter-alike v m h)
           (each-same (length segs) _ _ (enter (given p′ q′) v m)
-          (λ i y. let c = other segs i v in
+          (λ i l y. let c = other segs i v in
           only-same (child (given p q) v i) (λ x. try (given p q) c i v (walk (given p q) k c (try (given p q) v i c x))) (λ x. try (given p′ q′) c i v (walk (given p′ q′) k c (try (given p′ q′) v i c x))) y
-          (ap (try (given p q) c i v) (walk-alike k c (try (given p q) v i c y)))))
+          (λ e. ap (try (given p q) c i v) (walk-alike inside k c (try (given p q) v i c y) (inside v i l e)))))
 
 -- CROSS PRODUCTS
 scaled-less : (k a b : ℕ) → 1 ≤ k → ltb (k * a) (k * b) ≡ ltb a b
@@ -82,7 +83,7 @@ module _ (ok : ℕ → Bool) (n : Net) (k : ℕ) (once : 1 ≤ k) where
   unfolding walkOf walkWith givenWith lightestOf shortestOf leastLengthsOf
   walk-scaled =
       walk-alike (n .segments) (n .head .posts) (lightestOf ok n) (shortestOf ok n) (leastLengthsOf ok n) (λ _. k * n .head .p) (λ _. k * n .head .q) (λ _. n .head .p) (λ _. n .head .q)
-      (λ v x y. scaled-test k (n .head .p) (n .head .q) x y once) (n .head .posts) (n .head .source) _
+      (λ v. v ≡ v) (λ v _ x y. scaled-test k (n .head .p) (n .head .q) x y once) (λ v i _ _. refl) (n .head .posts) (n .head .source) _ refl
 
   -- equal trees
   pub tree-scaled : (t : Tree) → treeOf ok (scaledNet k n) t ≡ treeOf ok n t

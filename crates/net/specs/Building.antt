@@ -1,10 +1,11 @@
 -- What building and margin answer, and what the lent lists hold afterwards, for every input.
 -- The number of segments, m, is given beside the net: an array may hold fewer than are claimed, and 4 looks at the
 -- claim.
+use mathlib.Core.Path.{_≡_}
 use mathlib.Core.Bool.{Bool}
 use mathlib.Core.List.{List, _++_}
 use mathlib.Core.Option.{Option, none, some}
-use Prim.Native.Nat.{ℕ}
+use Prim.Native.Nat.{ℕ, _*_, _≤_, _<_}
 use lib.ListN.{length, drop}
 use lib.IntN.{ℤ}
 use Rattle.net.specs.Net.{Net}
@@ -15,6 +16,12 @@ use Rattle.net.specs.declared.Measured.{Measured}
 use Rattle.net.specs.declared.Refusal.{Refusal}
 use Rattle.net.specs.declared.Tree.{Tree}
 use Rattle.net.specs.declared.Tree.the-variants.{Lightest, Shortest, Between}
+
+-- THE SMALLEST RATIO of n posts but the source s, by cross products: v has it
+pub record Smallest (p q : ℕ → ℕ) (n s v : ℕ) : Type 0 where
+  pub is-post : v < n
+  pub not-source : v ≡ s → ⊥
+  pub no-smaller : (u : ℕ) → u < n → (u ≡ s → ⊥) → p v * q u ≤ p u * q v
 
 module _ (ok : ℕ → Bool) (n : Net) where
   -- THE THREE TREES of a net
