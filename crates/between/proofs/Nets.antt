@@ -1,25 +1,27 @@
 -- The third tree of a net: over net's own lightest tree, shortest tree and least lengths the walk in code is net's walk (`walked-of-net`), and a net that
 -- nothing from 1 to 7 refuses is all that the code asks for (`net-walkable`). Relies on net's laws of least lengths and of what a walk is owed; `third_tree`'s caller cites both.
 use mathlib.Core.Path.{_≡_, refl, sym, ap, _∙_}
-use mathlib.Core.Bool.{Bool}
+use mathlib.Core.Bool.{true}
 use mathlib.Core.List.{List}
 use Prim.Native.Nat.{ℕ, _≤_, _<_}
 use native.Mathlib.Omega.{arith}
 use native.Mathlib.Decide.{decLt}
-use lib.ListN.{length, List·getD-eq-default}
+use lib.ListN.{length, getD, List·getD-eq-default}
 use Rattle.net.specs.Words.{noSegment}
-use Rattle.net.specs.Net.{Net, segmentsOf, lengthAt, every}
+use Rattle.net.specs.Net.{Net, segmentsOf, lengthAt, other, every}
 use Rattle.net.specs.Rules.{NetSound}
 use Rattle.net.specs.Trees.{noneYet, at, entry, least, leastLengths, shortest}
-use Rattle.net.specs.Walk.{Notes}
-use Rattle.net.specs.Building.{lightestOf, shortestOf, leastLengthsOf, givenWith, walkWith, walkOf, betweenOf, laidOf}
+use Rattle.net.specs.Walk.{child}
+use Rattle.net.specs.Building.{lightestOf, shortestOf, leastLengthsOf, givenWith, walkWith, walkOf}
 use Rattle.net.specs.declared.Head.{Head}
-use Rattle.net.proofs.Least.{Inside, length-least, least-most, leads-from}
+use Rattle.net.proofs.Least.{Inside, length-least, least-most, leads-from, leads-to}
 use Rattle.net.proofs.Shortest.{length-shortest, shortest-source}
 use Rattle.net.proofs.Notes.{Owed}
+use Rattle.net.proofs.Tour.{child-leads}
+use Rattle.net.proofs.Ratios.{walk-alike}
 use Rattle.net.proofs.Sound.{inside, below, few, heavy, g, is-owed}
-use Rattle.between.specs.Given.{Low, Level, Lists}
-use Rattle.between.specs.Asked.{Upward, Walkable, walkedOf, ThirdTree}
+use Rattle.between.specs.Given.{Low, Level, Lists, Ratios, givenOf}
+use Rattle.between.specs.Asked.{Upward, Walkable, walkedOf}
 use Rattle.between.proofs.Lists.{lists-of}
 
 -- the net of a head and of three lists side by side
@@ -76,29 +78,38 @@ module _ (m : ℕ) (head : Head) (a b lengths : List ℕ) (level : Level a b len
         nearer = z .nearer;
       }
 
-  -- NOTHING MORE IS ASKED
-  pub net-walkable : Walkable (head .source) (head .p) (head .q) a b lengths (shortestOf every (netFrom head a b lengths)) (leastLengthsOf every (netFrom head a b lengths))
-  net-walkable =
-      record {
-        few-posts = omega (arith, length-lengths, sound .head-sound .posts-sound .few-posts);
-        posts-are = length-short ∙ sym length-lengths;
-        source-in = omega (arith, length-lengths, sound .head-sound .source-in);
-        level = level;
-        inside = record {
-          a-in = λ i h. let y = (sound .segments-sound i (omega (arith, lists .count)) refl) .ends-sound .a-in in omega (arith, lists .a-is i, length-lengths);
-          b-in = λ i h. let y = (sound .segments-sound i (omega (arith, lists .count)) refl) .ends-sound .b-in in omega (arith, lists .b-is i, length-lengths);
-        };
-        p-most = sound .head-sound .small-p;
-        q-most = sound .head-sound .small-q;
-        q-some = sound .head-sound .some-q;
-        D-low = least-low;
-        top = short-top;
-        rank = owes .rank;
-        rank-most = λ v h. let y = owes .rank-most v (omega (arith, length-lengths)) in omega (arith, length-lengths);
-        upward = ways-up;
-      }
+  module _ (p q : List ℕ) (ratios : Ratios (head .posts) p q) where
+    -- NOTHING MORE IS ASKED but a ratio for each post
+    pub net-walkable : Walkable (head .source) p q a b lengths (shortestOf every (netFrom head a b lengths)) (leastLengthsOf every (netFrom head a b lengths))
+    net-walkable =
+        record {
+          few-posts = omega (arith, length-lengths, sound .head-sound .posts-sound .few-posts);
+          posts-are = length-short ∙ sym length-lengths;
+          source-in = omega (arith, length-lengths, sound .head-sound .source-in);
+          level = level;
+          inside = record {
+            a-in = λ i h. let y = (sound .segments-sound i (omega (arith, lists .count)) refl) .ends-sound .a-in in omega (arith, lists .a-is i, length-lengths);
+            b-in = λ i h. let y = (sound .segments-sound i (omega (arith, lists .count)) refl) .ends-sound .b-in in omega (arith, lists .b-is i, length-lengths);
+          };
+          ratios = rw length-lengths ratios;
+          D-low = least-low;
+          top = short-top;
+          rank = owes .rank;
+          rank-most = λ v h. let y = owes .rank-most v (omega (arith, length-lengths)) in omega (arith, length-lengths);
+          upward = ways-up;
+        }
 
-  pub walked-of-net : walkedOf (head .source) (head .p) (head .q) a b lengths (lightestOf every (netFrom head a b lengths)) (shortestOf every (netFrom head a b lengths)) (leastLengthsOf every (netFrom head a b lengths))
-      ≡ walkOf every (netFrom head a b lengths)
-  unfolding walkedOf walkOf walkWith givenWith
-  walked-of-net = rw length-lengths
+    -- where each post has the house ratio, the walk is the net's
+    pub walked-of-net : ((v : ℕ) → v < head .posts → getD p v 0 ≡ head .p) → ((v : ℕ) → v < head .posts → getD q v 0 ≡ head .q)
+        → walkedOf (head .source) p q a b lengths (lightestOf every (netFrom head a b lengths)) (shortestOf every (netFrom head a b lengths)) (leastLengthsOf every (netFrom head a b lengths))
+        ≡ walkOf every (netFrom head a b lengths)
+    unfolding walkedOf walkOf walkWith givenWith
+    walked-of-net ep eq =
+        rw length-lengths
+        (walk-alike (segmentsOf a b lengths) (head .posts) (lightestOf every (netFrom head a b lengths)) (shortestOf every (netFrom head a b lengths)) (leastLengthsOf every (netFrom head a b lengths))
+        (λ v. getD p v 0) (λ v. getD q v 0) (λ _. head .p) (λ _. head .q) (λ v. v < head .posts) (λ v h x y. rw (ep v h, eq v h)) children-in (head .posts) (head .source) _ (sound .head-sound .source-in))
+      where
+        children-in : (v i : ℕ) → i < length (segmentsOf a b lengths)
+            → child (givenOf (head .posts) p q a b lengths (lightestOf every (netFrom head a b lengths)) (shortestOf every (netFrom head a b lengths)) (leastLengthsOf every (netFrom head a b lengths))) v i ≡ true
+            → other (segmentsOf a b lengths) i v < head .posts
+        children-in v i h e = leads-to ends (child-leads (givenOf (head .posts) p q a b lengths (lightestOf every (netFrom head a b lengths)) (shortestOf every (netFrom head a b lengths)) (leastLengthsOf every (netFrom head a b lengths))) v i h e) refl

@@ -103,7 +103,7 @@ start-notes m n s h k =
     ext-getD noneYet (take n (set (replicate m noneYet) s 0)) (tab n (λ v. cond (eqb v s) 0 noneYet)) (e ∙ sym (length-tab (λ v. cond (eqb v s) 0 noneYet) n))
     (λ v kv. start-at m n s h k v (omega (arith, e)) ∙ sym (tab-at (λ v. cond (eqb v s) 0 noneYet) n v noneYet (omega (arith, e))))
 
-module _ {source p q : ℕ} {a b lengths shortest dist : List ℕ} (w : Walkable source p q a b lengths shortest dist) (walked : List ℕ) where
+module _ {source : ℕ} {p q a b lengths shortest dist : List ℕ} (w : Walkable source p q a b lengths shortest dist) (walked : List ℕ) where
   abbrev G : Given
   G = givenOf (length dist) p q a b lengths walked shortest dist
 
@@ -128,7 +128,7 @@ module _ {source p q : ℕ} {a b lengths shortest dist : List ℕ} (w : Walkable
     direct = record { lengths-are = lists .lengths-is; shortest-is = refl; D-is = refl; up-is = parent-is; posts-are = w .posts-are }
 
     entering : (v : ℕ) → v < length dist → Entering G v limits lengths shortest up dist
-    entering v h = record { direct = direct; limit-is = λ x. rw (t .limits-are v h) (limit-test p q (at dist v) x (w .q-some)) }
+    entering v h = record { direct = direct; limit-is = λ x. rw (t .limits-are v h) (limit-test (getD p v 0) (getD q v 0) (at dist v) x (w .ratios .q-some v h)) }
 
     -- a post with a least length hangs deeper than its parent
     abbrev Noted : ℕ → Type 0
@@ -198,10 +198,10 @@ module _ {source p q : ℕ} {a b lengths shortest dist : List ℕ} (w : Walkable
       start-ends s = let z = rw starts at s in record { count = sym (z .counted); tree = sym (z .hung) }
 
 -- THE TABLES, as the code puts them at the fronts of two lists
-pub tables-of : (p q : ℕ) (a b shortest dist limits up u l : List ℕ) → up ≡ parentsBy a b shortest ++ drop (length shortest) u → limits ≡ limitsBy p q dist ++ drop (length dist) l
+pub tables-of : (p q a b shortest dist limits up u l : List ℕ) → up ≡ parentsBy a b shortest ++ drop (length shortest) u → limits ≡ limitsBy p q dist ++ drop (length dist) l
     → Tables p q a b shortest dist limits up
 tables-of p q a b shortest dist limits up u l eu el =
-    let f : ℕ → ℕ = λ v. limitBy p q (at dist v) in
+    let f : ℕ → ℕ = λ v. limitBy (getD p v 0) (getD q v 0) (at dist v) in
     let h : ℕ → ℕ = λ v. endBeyond a b (entry shortest v) v in
     record {
       limits-are = λ v k. rw el (List·getD-append (limitsBy p q dist) (drop (length dist) l) noneYet v (omega (arith, length-tab f (length dist))) ∙ tab-at f (length dist) v noneYet k);
@@ -214,7 +214,7 @@ pub ends-wider : {n m : ℕ} {a b : List ℕ} → n ≤ m → EndsIn n a b → E
 ends-wider h e = record { a-in = λ i k. let z = e .a-in i k in omega arith; b-in = λ i k. let z = e .b-in i k in omega arith }
 
 -- ONE OUTCOME. Two outcomes that the contract of the third tree's code allows are equal
-pub third-tree-unique : {source p q laid laid′ : ℕ} {a b lengths walked shortest dist after after′ : List ℕ}
+pub third-tree-unique : {source laid laid′ : ℕ} {p q a b lengths walked shortest dist after after′ : List ℕ}
     → ThirdTree source p q a b lengths walked shortest dist laid after → ThirdTree source p q a b lengths walked shortest dist laid′ after′
     → (laid ≡ laid′) × (after ≡ after′)
 third-tree-unique x y = (x .count ∙ sym (y .count), x .tree ∙ sym (y .tree))

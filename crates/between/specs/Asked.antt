@@ -7,10 +7,10 @@ use mathlib.Core.List.{List}
 use Prim.Native.Nat.{ℕ, _≤_, _<_}
 use lib.ListN.{length, getD}
 use Rattle.net.specs.Words.{noSegment}
-use Rattle.net.specs.Net.{segmentsOf, other, mostRatio, mostPosts}
+use Rattle.net.specs.Net.{segmentsOf, other, mostPosts}
 use Rattle.net.specs.Trees.{noneYet, at, entry, parent}
 use Rattle.net.specs.Walk.{Notes, Given, atStart, child, walk}
-use Rattle.between.specs.Given.{notesOf, Shows, Low, Level, EndsIn, endBeyond, limitBy, givenOf}
+use Rattle.between.specs.Given.{notesOf, Shows, Low, Level, EndsIn, Ratios, endBeyond, limitBy, givenOf}
 use Rattle.between.specs.Laying.{Layable, Entering}
 use Rattle.between.specs.Children.{Linked}
 
@@ -52,15 +52,13 @@ pub record Upward (a b lengths shortest dist : List ℕ) (rank : ℕ → ℕ) (v
   pub nearer : rank (parent (segmentsOf a b lengths) shortest v) < rank v
 
 -- what is asked of a net before its third tree is made; nothing is asked of the tree walked
-pub record Walkable (source p q : ℕ) (a b lengths shortest dist : List ℕ) : Type 0 where
+pub record Walkable (source : ℕ) (p q a b lengths shortest dist : List ℕ) : Type 0 where
   pub few-posts : length dist ≤ mostPosts
   pub posts-are : length shortest ≡ length dist
   pub source-in : source < length dist
   pub level : Level a b lengths
   pub inside : EndsIn (length dist) a b
-  pub p-most : p ≤ mostRatio
-  pub q-most : q ≤ mostRatio
-  pub q-some : 0 < q
+  pub ratios : Ratios (length dist) p q
   pub D-low : Low dist
   pub top : entry shortest source ≡ noSegment
   pub rank : ℕ → ℕ
@@ -69,32 +67,32 @@ pub record Walkable (source p q : ℕ) (a b lengths shortest dist : List ℕ) : 
       → Upward a b lengths shortest dist rank v
 
 -- the limits and the parents stand in two lists, one entry for each post at their fronts
-pub record Tables (p q : ℕ) (a b shortest dist limits up : List ℕ) : Type 0 where
-  pub limits-are : (v : ℕ) → v < length dist → at limits v ≡ limitBy p q (at dist v)
+pub record Tables (p q a b shortest dist limits up : List ℕ) : Type 0 where
+  pub limits-are : (v : ℕ) → v < length dist → at limits v ≡ limitBy (getD p v 0) (getD q v 0) (at dist v)
   pub up-are : (v : ℕ) → v < length shortest → getD up v 0 ≡ endBeyond a b (entry shortest v) v
   pub room : length shortest ≤ length up
 
--- so they do for some ratio
+-- so they do for some ratios
 pub record Tabled (source : ℕ) (a b lengths shortest dist limits up : List ℕ) : Type 0 where
-  pub p : ℕ
-  pub q : ℕ
+  pub p : List ℕ
+  pub q : List ℕ
   pub walkable : Walkable source p q a b lengths shortest dist
   pub tables : Tables p q a b shortest dist limits up
 
 -- the walk from the source, from the start
-unfoldable pub walkedOf : (source p q : ℕ) (a b lengths walked shortest dist : List ℕ) → Notes
+unfoldable pub walkedOf : (source : ℕ) (p q a b lengths walked shortest dist : List ℕ) → Notes
 walkedOf source p q a b lengths walked shortest dist =
     walk (givenOf (length dist) p q a b lengths walked shortest dist) (length dist) source
     (atStart (length dist) source)
 
 -- what the third tree's code leaves: the number of laid paths, and the lent list
-pub record ThirdTree (source p q : ℕ) (a b lengths walked shortest dist : List ℕ) (laid : ℕ) (after : List ℕ) : Type 0
+pub record ThirdTree (source : ℕ) (p q a b lengths walked shortest dist : List ℕ) (laid : ℕ) (after : List ℕ) : Type 0
   where
     pub count : laid ≡ length ((walkedOf source p q a b lengths walked shortest dist) .laid)
     pub tree : after ≡ (walkedOf source p q a b lengths walked shortest dist) .entries
 
--- the same by tables of some ratio
+-- the same by tables of some ratios
 abbrev pub ThirdTabled : (source : ℕ) (a b lengths walked shortest dist limits up : List ℕ) → ℕ → List ℕ → Type 0
-ThirdTabled source a b lengths walked shortest dist limits up laid after = (p q : ℕ)
+ThirdTabled source a b lengths walked shortest dist limits up laid after = (p q : List ℕ)
     → Walkable source p q a b lengths shortest dist → Tables p q a b shortest dist limits up
     → ThirdTree source p q a b lengths walked shortest dist laid after

@@ -8,7 +8,7 @@ use Prim.Native.Nat.{ℕ, _+_, _*_, _/_, _≤_, _<_}
 use lib.Dec.{eqb}
 use lib.ListN.{length, getD}
 use Rattle.net.specs.Words.{tab}
-use Rattle.net.specs.Net.{segmentsOf, segmentAt, lengthAt}
+use Rattle.net.specs.Net.{segmentsOf, segmentAt, lengthAt, mostRatio}
 use Rattle.net.specs.Trees.{noneYet, at, entry}
 use Rattle.net.specs.Walk.{Notes, Given}
 use Rattle.net.specs.declared.Segment.{Segment}
@@ -56,11 +56,19 @@ parentsBy a b tree = tab (length tree) (λ v. endBeyond a b (entry tree v) v)
 abbrev pub limitBy : (p q least : ℕ) → ℕ
 limitBy p q least = (p + q) * least / q
 
-abbrev pub limitsBy : (p q : ℕ) → List ℕ → List ℕ
-limitsBy p q dist = tab (length dist) (λ v. limitBy p q (at dist v))
+abbrev pub limitsBy : (p q dist : List ℕ) → List ℕ
+limitsBy p q dist = tab (length dist) (λ v. limitBy (getD p v 0) (getD q v 0) (at dist v))
 
--- WHAT THE WALK IS GIVEN, as plain lists and numbers, one ratio for all posts
-abbrev pub givenOf : (posts p q : ℕ) (a b lengths walked shortest dist : List ℕ) → Given
+-- RATIOS. Two lists have a ratio within the bounds for each of n posts
+pub record Ratios (n : ℕ) (p q : List ℕ) : Type 0 where
+  pub p-long : n ≤ length p
+  pub q-long : n ≤ length q
+  pub p-most : (v : ℕ) → v < n → getD p v 0 ≤ mostRatio
+  pub q-most : (v : ℕ) → v < n → getD q v 0 ≤ mostRatio
+  pub q-some : (v : ℕ) → v < n → 0 < getD q v 0
+
+-- WHAT THE WALK IS GIVEN, as plain lists, a ratio for each post
+abbrev pub givenOf : (posts : ℕ) (p q a b lengths walked shortest dist : List ℕ) → Given
 givenOf posts p q a b lengths walked shortest dist =
     record {
       segments = segmentsOf a b lengths;
@@ -68,6 +76,6 @@ givenOf posts p q a b lengths walked shortest dist =
       walked = walked;
       shortest = shortest;
       D = dist;
-      p = λ _. p;
-      q = λ _. q;
+      p = λ v. getD p v 0;
+      q = λ v. getD q v 0;
     }

@@ -13,7 +13,7 @@ ghost use Rattle.net.specs.Words.{noSegment};
 ghost use Rattle.net.specs.Net.{lengthAt, mostRatio};
 ghost use Rattle.net.specs.Trees.{noneYet, at, entry};
 ghost use Rattle.net.specs.Walk.{Given, try, lay, enter};
-ghost use Rattle.between.specs.Given.{notesOf, Shows, EndsIn, Low, endBeyond, parentsBy, limitBy, limitsBy};
+ghost use Rattle.between.specs.Given.{notesOf, Shows, EndsIn, Low, Ratios, endBeyond, parentsBy, limitBy, limitsBy};
 ghost use Rattle.between.specs.Laying.{depth, Late, Layable, Direct, Entering};
 ghost use Rattle.between.specs.Children.{Indexed, adopted, adoptedBoth};
 ghost use Rattle.between.specs.Asked.{Walking, Walked, Walkable, Tabled, ThirdTabled, ThirdTree};
@@ -281,16 +281,16 @@ fn limit_of(p: u32, q: u32, least: u64) -> u64
     net::plain::wide(p + q) * least / net::plain::wide(q)
 }
 
-// The limits of all posts, into the front of a list.
-fn put_limits(p: u32, q: u32, dist: &[u64], limits: &mut [u64])
-    requires { ⌜ (p ≤ mostRatio) × (q ≤ mostRatio) × (0 < q) × Low (now dist) ⌝ }
+// The limits of all posts by their ratios, into the front of a list.
+fn put_limits(p: &[u32], q: &[u32], dist: &[u64], limits: &mut [u64])
+    requires { ⌜ Ratios (length (now dist)) (now p) (now q) × Low (now dist) ⌝ }
     requires { ⌜ length (now dist) ≤ length (now limits) ⌝ }
-    ensures { λ _. ⌜ now (limits .exit)
-        ≡ limitsBy p q (now (dist .entry)) ++ drop (length (now (dist .entry))) (now (limits .entry)) ⌝ }
+    ensures { λ _. ⌜ now (limits .exit) ≡ limitsBy (now (p .entry)) (now (q .entry)) (now (dist .entry))
+        ++ drop (length (now (dist .entry))) (now (limits .entry)) ⌝ }
 {
     let mut v = 0;
     while v < dist.len() {
-        limits[v] = limit_of(p, q, dist[v]);
+        limits[v] = limit_of(p[v], q[v], dist[v]);
         v += 1;
     }
 }
@@ -338,11 +338,11 @@ fn walk_net(
 }
 
 // The third tree of a net, by a walk over the tree `walked` from the source: puts its entries into the lent list, one
-// for each post, and answers how many direct paths were laid.
+// for each post, and answers how many direct paths were laid. Each post has its ratio in the lists p and q.
 pub fn third_tree(
     source: usize,
-    p: u32,
-    q: u32,
+    p: &[u32],
+    q: &[u32],
     a: &[u16],
     b: &[u16],
     lengths: &[u32],
@@ -351,10 +351,10 @@ pub fn third_tree(
     dist: &[u64],
     entries: &mut [u16],
 ) -> u32
-    requires { ⌜ Walkable source p q (now a) (now b) (now lengths) (now shortest) (now dist)
+    requires { ⌜ Walkable source (now p) (now q) (now a) (now b) (now lengths) (now shortest) (now dist)
         × (length (now entries) ≡ length (now dist)) ⌝ }
-    ensures walked { λ r. ⌜ ThirdTree source p q (now (a .entry)) (now (b .entry)) (now (lengths .entry))
-        (now (walked .entry)) (now (shortest .entry)) (now (dist .entry)) r (now (entries .exit)) ⌝ }
+    ensures walked { λ r. ⌜ ThirdTree source (now (p .entry)) (now (q .entry)) (now (a .entry)) (now (b .entry))
+        (now (lengths .entry)) (now (walked .entry)) (now (shortest .entry)) (now (dist .entry)) r (now (entries .exit)) ⌝ }
 {
     let mut up = [0u16; POST_PLACES];
     let mut limits = [0u64; POST_PLACES];

@@ -5,7 +5,7 @@ use mathlib.Core.List.{List, _++_, append-nil}
 use Prim.Native.Nat.{ℕ, _≤_, _<_}
 use native.Mathlib.Omega.{arith}
 use native.Mathlib.Nat.{le-refl}
-use lib.ListN.{length, getD, take, drop, replicate, drop-of-length-le}
+use lib.ListN.{length, getD, take, drop, replicate, drop-of-length-le, getD-replicate}
 use Rattle.net.specs.Net.{every, segmentsOf}
 use Rattle.net.specs.Trees.{noneYet, at, belonging, lightest, leastLengths, shortest}
 use Rattle.net.specs.Building.{lightestOf, shortestOf, leastLengthsOf, walkOf, betweenOf, laidOf}
@@ -19,7 +19,7 @@ use Rattle.lightest.proofs.Fitting.{inside-fit}
 use Rattle.lightest.proofs.Presence.{belonging-every}
 use Rattle.shortest.specs.Rows.{Index}
 use Rattle.shortest.proofs.Trees.{length-first, first-at}
-use Rattle.between.specs.Given.{Level}
+use Rattle.between.specs.Given.{Level, Ratios}
 use Rattle.between.specs.Asked.{Walkable, walkedOf, ThirdTree}
 use Rattle.between.proofs.Nets.{walked-of-net, net-walkable, length-lengths, least-low}
 use Rattle.net.specs.Ready.{netAt, Ready}
@@ -55,6 +55,21 @@ module _ {head : Head} {a b lengths : List ℕ} (r : Ready head a b lengths) whe
 
   level-at : Level a b lengths
   level-at = record { b-level = r .b-level; lengths-level = r .lengths-level }
+
+  -- a list of one number for all posts
+  house-at : (x v : ℕ) → v < head .posts → getD (replicate 256 x) v 0 ≡ x
+  house-at x v h = getD-replicate 256 v x 0 (omega (arith, ready-posts r))
+
+  house-ratios : Ratios (head .posts) (replicate 256 (head .p)) (replicate 256 (head .q))
+  house-ratios =
+      let h = r .sound .head-sound in
+      record {
+        p-long = omega (arith, ready-posts r);
+        q-long = omega (arith, ready-posts r);
+        p-most = λ v k. omega (arith, house-at (head .p) v k, h .small-p);
+        q-most = λ v k. omega (arith, house-at (head .q) v k, h .small-q);
+        q-some = λ v k. omega (arith, house-at (head .q) v k, h .some-q);
+      }
 
   pub ready-short : Short lengths
   ready-short =
@@ -101,16 +116,18 @@ module _ {head : Head} {a b lengths : List ℕ} (r : Ready head a b lengths) whe
     pub dist-long : length dist ≡ head .posts
     dist-long = ap length (w .lengths-are) ∙ length-lengths (length (segmentsOf a b lengths)) head a b lengths level-at (le-refl _) (r .sound)
 
-    -- the third tree: what is asked, and what is left
-    pub walkable-at : Walkable source (head .p) (head .q) a b lengths short dist
-    walkable-at = rw (source-is, w .lengths-are, w .tree-is) (net-walkable (length (segmentsOf a b lengths)) head a b lengths level-at (le-refl _) (r .sound))
+    -- the third tree at the house ratio: what is asked, and what is left
+    pub walkable-at : Walkable source (replicate 256 (head .p)) (replicate 256 (head .q)) a b lengths short dist
+    walkable-at =
+        rw (source-is, w .lengths-are, w .tree-is)
+        (net-walkable (length (segmentsOf a b lengths)) head a b lengths level-at (le-refl _) (r .sound) (replicate 256 (head .p)) (replicate 256 (head .q)) house-ratios)
 
-    pub third-at : {light : List ℕ} → light ≡ lightestOf every (netAt head a b lengths) → {laid : ℕ} {t : List ℕ} → ThirdTree source (head .p) (head .q) a b lengths light short dist laid t
+    pub third-at : {light : List ℕ} → light ≡ lightestOf every (netAt head a b lengths) → {laid : ℕ} {t : List ℕ} → ThirdTree source (replicate 256 (head .p)) (replicate 256 (head .q)) a b lengths light short dist laid t
         → (laid ≡ length (laidOf every (netAt head a b lengths))) × (t ≡ betweenOf every (netAt head a b lengths))
     unfolding laidOf betweenOf
     third-at {light} light-is {laid} {t} z =
-        let walked-at : walkedOf source (head .p) (head .q) a b lengths light short dist ≡ walkOf every (netAt head a b lengths) =
-        rw (source-is, light-is, w .lengths-are, w .tree-is) (walked-of-net (length (segmentsOf a b lengths)) head a b lengths level-at (le-refl _) (r .sound)) in
+        let walked-at : walkedOf source (replicate 256 (head .p)) (replicate 256 (head .q)) a b lengths light short dist ≡ walkOf every (netAt head a b lengths) =
+        rw (source-is, light-is, w .lengths-are, w .tree-is) (walked-of-net (length (segmentsOf a b lengths)) head a b lengths level-at (le-refl _) (r .sound) (replicate 256 (head .p)) (replicate 256 (head .q)) house-ratios (house-at (head .p)) (house-at (head .q))) in
         (rw walked-at at (z .count), rw walked-at at (z .tree))
 
   -- the least length of a post

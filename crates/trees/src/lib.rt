@@ -210,18 +210,9 @@ fn third_tree(
     ensures { λ _. ⌜ now (tree .exit) ≡ betweenOf every (netBy head (a .entry) (b .entry) (lengths .entry)) ⌝ }
 {
     let source = index_of(head.source);
-    between::third_tree(
-        source,
-        head.p,
-        head.q,
-        a,
-        b,
-        lengths,
-        light,
-        short,
-        dist,
-        tree,
-    )
+    let p = [head.p; net::POST_PLACES];
+    let q = [head.q; net::POST_PLACES];
+    between::third_tree(source, &p, &q, a, b, lengths, light, short, dist, tree)
 }
 
 // The preparation by the net's index: the search and the walk go along it.

@@ -9,23 +9,23 @@ slice-aggregate-put-parents : tie.Need-slice-aggregate-put-parents
 slice-aggregate-put-parents c = search needs
 
 put-parents-requires : tie.Need-put-parents-requires
-put-parents-requires c κs = let w = c .before .before .before .before .before .before .before .before .pre .0 in omega (arith, w .posts-are, w .few-posts)
+put-parents-requires c κs = let w = c .before .before .before .before .before .before .before .before .before .before .pre .0 in omega (arith, w .posts-are, w .few-posts)
 
 slice-aggregate-put-limits : tie.Need-slice-aggregate-put-limits
 slice-aggregate-put-limits c = search needs
 
 put-limits-requires : tie.Need-put-limits-requires
-put-limits-requires c κs = let w = c .before .before .before .before .before .before .before .before .before .before .before .pre .0 in ((w .p-most, w .q-most, w .q-some, w .D-low), omega (arith, w .few-posts))
+put-limits-requires c κs = let w = c .before .before .before .before .before .before .before .before .before .before .before .before .before .pre .0 in ((w .ratios, w .D-low), omega (arith, w .few-posts))
 
 walk-net-requires : tie.Need-walk-net-requires
-walk-net-requires c κs = let p = c .before .before .before .before .before .before .before .before .before .before .before .before .before .before .before .before .pre in
+walk-net-requires c κs = let p = c .before .before .before .before .before .before .before .before .before .before .before .before .before .before .before .before .before .before .pre in
     (record { p = _; q = _; walkable = p .0; tables = tables-of _ _ _ _ _ _ _ _ _ _ (c .before .before .before .before .before .before .before .put-parents .ensures) (c .before .before .before .before .put-limits .ensures) }, p .1)
 
 same-length : tie.Need-same-length
 same-length c = search needs
 
 returns : tie.Need-returns
-returns c = c .before .before .walk-net .ensures _ _ (c .before .before .before .before .before .before .before .before .before .before .before .before .before .before .before .before .before .before .before .pre .0) (tables-of _ _ _ _ _ _ _ _ _ _
+returns c = c .before .before .walk-net .ensures _ _ (c .before .before .before .before .before .before .before .before .before .before .before .before .before .before .before .before .before .before .before .before .before .pre .0) (tables-of _ _ _ _ _ _ _ _ _ _
     (c .before .before .before .before .before .before .before .before .before .before .put-parents .ensures) (c .before .before .before .before .before .before .before .put-limits .ensures))
 
 pub third-tree-spec : {M : Type 1} → statement M
