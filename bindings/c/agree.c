@@ -26,12 +26,17 @@ static uint64_t bits(double length) {
 
 static const uint8_t net_a[] = {4, 0, 1, 1, 5, 0, 1, 4, 1, 2, 4, 2, 3, 4, 0, 3, 5, 0, 2, 6};
 static const uint8_t apart[] = {2, 0, 1, 1, 0};
+/* Net A in the second form: house ratio 1/1, and the own ratios 1/1, 0/1 and 9/1 of posts 1, 2 and 3. */
+static const uint8_t own[] = {0, 4, 0, 1, 1, 5, 1, 1, 0, 1, 9, 1, 0, 1, 4, 1, 2, 4, 2, 3, 4, 0, 3, 5, 0, 2, 6};
+static const uint8_t own_refused[] = {0, 3, 0, 1, 1, 0, 1, 1, 1, 0};
 
 static void check(void) {
     expect(drover_check(net_a, sizeof net_a) == 0, "check of net A");
     expect(drover_check(net_a, 19) == refusal(DROVER_CUT_RECORD, 19), "check of a cut record");
     expect(drover_check(NULL, 0) == refusal(DROVER_CUT_RECORD, 0), "check of no byte");
     expect(drover_check(apart, sizeof apart) == 0, "check of two posts apart");
+    expect(drover_check(own, sizeof own) == 0, "check of own ratios");
+    expect(drover_check(own_refused, sizeof own_refused) == refusal(DROVER_RATIO, 2), "check of a post's ratio");
 }
 
 static void plan(void) {
@@ -55,6 +60,17 @@ static void plan(void) {
     expect(memcmp(summary, numbers, sizeof summary) == 0, "summary of net A");
 }
 
+static void plan_own(void) {
+    static const uint16_t between[4] = {DROVER_SOURCE_ENTRY, 0, 4, 2};
+    static const uint32_t numbers[DROVER_SUMMARY] = {4, 5, 0, 1, 1, 12, 12, 15, 6, 14, 10, 1};
+    uint16_t trees[3][4];
+    uint32_t summary[DROVER_SUMMARY];
+    expect(drover_plan(own, sizeof own, trees[0], 4, trees[1], 4, trees[2], 4, summary, DROVER_SUMMARY) == 0,
+           "plan of own ratios");
+    expect(memcmp(trees[2], between, sizeof between) == 0, "the third tree of own ratios");
+    expect(memcmp(summary, numbers, sizeof summary) == 0, "summary of own ratios");
+}
+
 static void rewrite(void) {
     uint8_t room[sizeof net_a + 1];
     memset(room, 99, sizeof room);
@@ -62,6 +78,9 @@ static void rewrite(void) {
                (DROVER_REFUSED | refusal(DROVER_SHORT_ROOM, 0)), "rewrite into short room");
     expect(drover_rewrite(net_a, sizeof net_a, room, sizeof room) == sizeof net_a, "rewrite of net A");
     expect(memcmp(room, net_a, sizeof net_a) == 0 && room[sizeof net_a] == 99, "room after rewriting");
+    uint8_t again[sizeof own];
+    expect(drover_rewrite(own, sizeof own, again, sizeof again) == sizeof own &&
+               memcmp(again, own, sizeof own) == 0, "rewrite of own ratios");
 }
 
 static void margin(void) {
@@ -73,6 +92,8 @@ static void margin(void) {
     expect(drover_margin(net_a, sizeof net_a, DROVER_BETWEEN, 3, NULL, 0) == 0, "margin without a place for it");
     expect(drover_margin(net_a, sizeof net_a, DROVER_SHORTEST, 4, out, 2) == refusal(DROVER_NO_SUCH_POST, 0),
            "margin of no post");
+    expect(drover_margin(own, sizeof own, DROVER_LIGHTEST, 2, out, 2) == 0 && out[0] == -2,
+           "margin by a post's own ratio");
 }
 
 static void drawn(void) {
@@ -91,6 +112,7 @@ int main(int arguments, char **names) {
     expect(arguments == 1, "an argument");
     check();
     plan();
+    plan_own();
     rewrite();
     margin();
     drawn();

@@ -1,8 +1,11 @@
 /* Droverboot: plans wire looms. The functions of the proved static library.
  *
- * A net is a number of posts, a source post, a ratio p/q and a list of
+ * A net is a number of posts, a source post, a house ratio p/q and a list of
  * segments; a segment joins two posts and has a length in sixteenths of a
- * millimetre. A net comes as a record, a row of bytes.
+ * millimetre. In a net of the first form the house ratio rules every post; in
+ * one of the second form every post but the source has a ratio of its own, and
+ * the house ratio rules nothing. A net comes as a record, a row of bytes; that
+ * of the second form begins with 0.
  *
  * Every pointer is followed by the number of entries that it points to; no two
  * of the lists that a call may write into overlap each other or the record.
@@ -30,8 +33,8 @@ extern "C" {
 
 /* The length of the longest good record. The answer for a longer row of bytes
  * depends on its first DROVER_ENOUGH_BYTES only. */
-#define DROVER_LONGEST_RECORD 14346
-#define DROVER_ENOUGH_BYTES 14351
+#define DROVER_LONGEST_RECORD 15367
+#define DROVER_ENOUGH_BYTES 15372
 
 /* A tree's entry for the source, which hangs on nothing. */
 #define DROVER_SOURCE_ENTRY 65535
@@ -43,7 +46,8 @@ enum drover_refusal {
     DROVER_POST_COUNT = 1,
     /* the source isn't below the post count; place: 0 */
     DROVER_SOURCE = 2,
-    /* q is 0, or p or q is above 10,000; place: 0 */
+    /* q is 0, or p or q is above 10,000; place: 0, or the post whose own ratio
+     * it is */
     DROVER_RATIO = 3,
     /* there are more than 2,048 segments; place: 0 */
     DROVER_SEGMENT_COUNT = 4,
@@ -90,7 +94,7 @@ enum drover_tree {
     DROVER_BETWEEN = 2
 };
 
-/* The places of a summary. */
+/* The places of a summary. P and Q are the house ratio's, in either form. */
 enum drover_summary {
     DROVER_POSTS = 0,
     DROVER_SEGMENTS = 1,
@@ -142,9 +146,10 @@ uint64_t drover_rewrite(const uint8_t *record, size_t record_length,
 
 /* Reads a record and works out the margin of a post in one of its trees (enum
  * drover_tree; any larger number is DROVER_BETWEEN): (p + q) times the post's
- * least length from the source minus q times its path in the tree. It is below
- * zero exactly when the post breaks the limit, and goes to the first entry of
- * `out`, if there is one. Answers 0, or the refusal (as drover_plan, or 19). */
+ * least length from the source minus q times its path in the tree, p/q being
+ * the ratio that rules the post. It is below zero exactly when the post breaks
+ * the limit, and goes to the first entry of `out`, if there is one. Answers 0,
+ * or the refusal (as drover_plan, or 19). */
 uint64_t drover_margin(const uint8_t *record, size_t record_length,
                        uint32_t tree, uint32_t post,
                        int64_t *out, size_t out_length);

@@ -142,6 +142,11 @@ fn the_same_numbers() {
         ("DROVER_MOST_POSTS", MOST_POSTS),
         ("DROVER_MOST_SEGMENTS", MOST_SEGMENTS),
         ("DROVER_SOURCE_ENTRY", SOURCE_ENTRY.into()),
+        // 256 posts, 2,048 segments, and each number as long as it may be: a head
+        // of 1 + 2 + 2 + 2 + 2 + 2 bytes, 255 ratios of 4 and segments of 7; five
+        // more make a last segment of three four-byte numbers.
+        ("DROVER_LONGEST_RECORD", 11 + 255 * 4 + MOST_SEGMENTS * 7),
+        ("DROVER_ENOUGH_BYTES", 15_372),
     ] {
         let line = format!("#define {name} {number}\n");
         assert!(header.contains(&line), "{line}");

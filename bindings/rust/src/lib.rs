@@ -1,11 +1,14 @@
 //! Plans wire looms: safe functions over Droverboot's proved static library.
 //!
-//! A *net* is a number of posts, a source post, a ratio p/q and a list of
+//! A *net* is a number of posts, a source post, a house ratio p/q and a list of
 //! segments; a segment joins two posts and has a length in sixteenths of a
-//! millimetre. A net comes as a *record*, a row of bytes. From it the library
-//! builds three trees that hang every post on the source: the lightest, the
-//! shortest, and one between them that keeps each path within (p + q)/q of the
-//! least and its length near that of the lightest.
+//! millimetre. In the *first form* the house ratio rules every post; in the
+//! *second form* every post but the source has a ratio of its own, and the house
+//! ratio rules nothing. A net comes as a *record*, a row of bytes; that of the
+//! second form begins with 0. From it the library builds three trees that hang
+//! every post on the source: the lightest, the shortest, and one between them
+//! that keeps each path within (p + q)/q of the least, p/q being the ratio that
+//! rules the post, and its length near that of the lightest.
 //!
 //! ```
 //! use droverboot::{plan, Tree};
@@ -105,8 +108,9 @@ pub fn rewrite_into(record: &[u8], room: &mut [u8]) -> Result<usize, Refusal> {
 }
 
 /// The margin of a post in one of a record's trees, worked out afresh:
-/// (p + q) × least length minus q × path in the tree. It is below zero exactly
-/// when the post breaks the limit, and 0 for the source.
+/// (p + q) × least length minus q × path in the tree, p/q being the ratio that
+/// rules the post. It is below zero exactly when the post breaks the limit, and 0
+/// for the source.
 ///
 /// # Errors
 /// The refusals of [`plan`], and number 19 if there is no such post.

@@ -73,9 +73,9 @@ pub struct Plan {
     pub segments: u32,
     /// The source post.
     pub source: u32,
-    /// The upper number of the ratio p/q.
+    /// The upper number of the house ratio p/q.
     pub p: u32,
-    /// The lower number of the ratio p/q.
+    /// The lower number of the house ratio p/q.
     pub q: u32,
     /// The lightest tree.
     pub lightest: BuiltTree,

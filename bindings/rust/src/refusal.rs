@@ -10,6 +10,8 @@ use crate::raw::REFUSED;
 enum Place {
     /// Nothing: the place is always 0.
     Nothing,
+    /// A post whose own ratio it is; 0 is that of post 0 or the house ratio.
+    Ratio,
     Segment,
     Post,
     /// An offset in the record.
@@ -60,7 +62,7 @@ macro_rules! reasons {
 reasons! {
     1 PostCount Nothing "the post count is 0 or above 256"
     2 Source Nothing "the source isn't below the post count"
-    3 Ratio Nothing "q is 0, or p or q is above 10,000"
+    3 Ratio Ratio "q is 0, or p or q is above 10,000"
     4 SegmentCount Nothing "there are more than 2,048 segments"
     5 SegmentEnd Segment "a segment's end isn't below the post count"
     6 SameEnds Segment "both ends of a segment are the same"
@@ -131,8 +133,9 @@ impl fmt::Display for Refusal {
         write!(f, "refusal {}", self.reason.number())?;
         match (self.reason.place(), self.place) {
             (Place::Nothing, _) => Ok(()),
+            (Place::Ratio, 0) => write!(f, " at the house ratio or post 0"),
             (Place::Segment, segment) => write!(f, " at segment {segment}"),
-            (Place::Post, post) => write!(f, " at post {post}"),
+            (Place::Ratio | Place::Post, post) => write!(f, " at post {post}"),
             (Place::Byte, byte) => write!(f, " at byte {byte}"),
             (Place::Leg, 2) => write!(f, " at both legs"),
             (Place::Leg, leg) => write!(f, " at leg {leg}"),
@@ -184,6 +187,11 @@ mod tests {
             words(Reason::NotJoined, 1),
             "refusal 9 at post 1: a post isn't joined to the source"
         );
+        assert_eq!(
+            words(Reason::Ratio, 2),
+            "refusal 3 at post 2: q is 0, or p or q is above 10,000"
+        );
+        assert!(words(Reason::Ratio, 0).starts_with("refusal 3 at the house ratio or post 0: "));
         assert_eq!(
             words(Reason::ShortRoom, 0),
             "refusal 18: the room for the written record is too short"

@@ -11,6 +11,11 @@ const NET_B: [u8; 20] = [5, 0, 1, 2, 5, 0, 1, 6, 1, 2, 6, 2, 3, 1, 2, 4, 2, 0, 4
 const NET_C: [u8; 23] = [
     5, 0, 1, 2, 6, 0, 1, 4, 1, 2, 4, 0, 2, 6, 2, 4, 5, 4, 3, 5, 2, 3, 5,
 ];
+/// Net A in the second form: house ratio 1/1, own ratios 1/1, 0/1 and 9/1 of
+/// posts 1, 2 and 3.
+const OWN: [u8; 27] = [
+    0, 4, 0, 1, 1, 5, 1, 1, 0, 1, 9, 1, 0, 1, 4, 1, 2, 4, 2, 3, 4, 0, 3, 5, 0, 2, 6,
+];
 const ONE_POST: [u8; 5] = [1, 0, 1, 1, 0];
 const TWO_POSTS: [u8; 9] = [2, 0, 1, 2, 1, 0, 1, 172, 2];
 
@@ -73,11 +78,40 @@ fn the_head_comes_back() {
 }
 
 #[test]
+fn own_ratios() {
+    let lightest: Measured = (12, 12, &[0, 1, 2]);
+    let shortest: Measured = (15, 6, &[0, 4, 3]);
+    assert_plan(&OWN, [lightest, shortest, (14, 10, &[0, 4, 2])], 1);
+    // The house ratio is kept and rules nothing.
+    let mut house = OWN;
+    (house[3], house[4]) = (0, 7);
+    assert_plan(&house, [lightest, shortest, (14, 10, &[0, 4, 2])], 1);
+    let printed = plan(&house).expect("planned");
+    assert_eq!((printed.p, printed.q), (0, 7));
+    // Source 2: the ratios are those of posts 0, 1 and 3.
+    let mut source_2 = OWN;
+    source_2[2] = 2;
+    source_2[6..12].copy_from_slice(&[0, 1, 1, 1, 2, 1]);
+    let text = plan(&source_2).expect("planned").to_string();
+    assert!(text.ends_with("spt 14 6 4 1 2\nlast 14 6 4 1 2\nlaid 1\n"));
+    for post in 0..4 {
+        let margins = [[0; 3], [4; 3], [-2, 0, 0], [38, 45, 40]];
+        let found = Tree::ALL.map(|tree| margin(&OWN, tree, post));
+        assert_eq!(found, margins[post as usize].map(Ok), "{post}");
+    }
+}
+
+#[test]
 fn refused_records() {
-    let cases: [(&[u8], Reason, u32); 15] = [
+    let cases: [(&[u8], Reason, u32); 20] = [
         (&[], Reason::CutRecord, 0),
         (&NET_A[..19], Reason::CutRecord, 19),
-        (&[0, 0, 1, 1, 0], Reason::PostCount, 0),
+        (&[0, 0, 1, 1, 0], Reason::CutRecord, 5),
+        (&[0, 0, 0, 1, 1, 0], Reason::PostCount, 0),
+        (&[0, 3, 0, 1, 1, 0, 1, 1, 1, 0], Reason::Ratio, 2),
+        (&[0, 3, 0, 1, 1, 0, 145, 78], Reason::CutRecord, 8),
+        (&[0, 3, 0, 1, 1, 0, 1, 128, 0], Reason::NumberForm, 7),
+        (&[0, 2, 0, 1, 0, 0, 1, 1], Reason::Ratio, 0),
         (&[129, 2, 0, 1, 1, 0], Reason::PostCount, 0),
         (&[4, 4, 1, 1, 0], Reason::Source, 0),
         (&[4, 0, 1, 0, 0], Reason::Ratio, 0),
@@ -112,7 +146,7 @@ fn a_net_that_is_not_joined() {
 
 #[test]
 fn records_are_written_as_they_were_read() {
-    for record in [&NET_A[..], &NET_B, &NET_C, &ONE_POST, &TWO_POSTS] {
+    for record in [&NET_A[..], &NET_B, &NET_C, &OWN, &ONE_POST, &TWO_POSTS] {
         assert_eq!(check(record), Ok(()));
         assert_eq!(rewrite(record).as_deref(), Ok(record));
     }
@@ -210,7 +244,7 @@ fn shipped_examples_print_as_stored() {
         assert_eq!(text, stored, "{}", path.display());
         printed += 1;
     }
-    assert!(printed >= 6, "{printed}");
+    assert!(printed >= 8, "{printed}");
 }
 
 /// 256 posts on a path, and a direct segment to each: the deepest walk there is,

@@ -13,7 +13,8 @@ ghost use Rattle.net.specs.Words.{noSegment};
 ghost use Rattle.net.specs.Net.{lengthAt, mostRatio};
 ghost use Rattle.net.specs.Trees.{noneYet, at, entry};
 ghost use Rattle.net.specs.Walk.{Given, try, lay, enter};
-ghost use Rattle.between.specs.Given.{notesOf, Shows, EndsIn, Low, Ratios, endBeyond, parentsBy, limitBy, limitsBy};
+ghost use Rattle.between.specs.Given.{notesOf, Shows, EndsIn, Low, Ratios};
+ghost use Rattle.between.specs.Given.{endBeyond, parentsBy, limitBy, limitsBy};
 ghost use Rattle.between.specs.Laying.{depth, Late, Layable, Direct, Entering};
 ghost use Rattle.between.specs.Children.{Indexed, adopted, adoptedBoth};
 ghost use Rattle.between.specs.Asked.{Walking, Walked, Walkable, Tabled, ThirdTabled, ThirdTree};
@@ -354,7 +355,8 @@ pub fn third_tree(
     requires { ⌜ Walkable source (now p) (now q) (now a) (now b) (now lengths) (now shortest) (now dist)
         × (length (now entries) ≡ length (now dist)) ⌝ }
     ensures walked { λ r. ⌜ ThirdTree source (now (p .entry)) (now (q .entry)) (now (a .entry)) (now (b .entry))
-        (now (lengths .entry)) (now (walked .entry)) (now (shortest .entry)) (now (dist .entry)) r (now (entries .exit)) ⌝ }
+        (now (lengths .entry)) (now (walked .entry)) (now (shortest .entry)) (now (dist .entry)) r
+        (now (entries .exit)) ⌝ }
 {
     let mut up = [0u16; POST_PLACES];
     let mut limits = [0u64; POST_PLACES];

@@ -1,8 +1,8 @@
--- What a refused building means: it is refused by 9, when nothing before refuses the net, exactly when some post has no route.
+-- What a refused building means: it is refused by 9, when nothing before refuses the net or the lists, exactly when some post has no route.
 use mathlib.Core.Path.{_≡_, sym, _∙_}
 use mathlib.Core.Logic.{_↔_}
 use mathlib.Core.Option.{Option, none, some}
-use Prim.Native.Nat.{ℕ, _<_}
+use Prim.Native.Nat.{ℕ, _≤_, _<_}
 use native.Mathlib.Omega.{arith}
 use Rattle.net.specs.Net.{Net, every}
 use Rattle.net.specs.Refusals.{Lent, refusal}
@@ -14,20 +14,20 @@ use Rattle.building.specs.Answers.{answerOf}
 use Rattle.building.specs.declared.Answer.{Answer}
 use Rattle.building.specs.declared.Answer.the-variants.{Refused}
 
-module _ (n : Net) (m : ℕ) (lent : Lent) {x : Answer} (is : x ≡ answerOf (buildOf every n m lent)) where
+module _ (n : Net) (m k : ℕ) (lent : Lent) {x : Answer} (is : x ≡ answerOf (buildOf every n m k lent)) where
   refusal-held : {r : Refusal} (o : Option Refusal) → answerOf (buildAnswer every n o) ≡ Refused r → o ≡ some r
   unfolding buildAnswer
-  refusal-held none e = absurd (let k : _≡_ {A = ℕ} 0 1 = cc in omega arith)
+  refusal-held none e = absurd (let z : _≡_ {A = ℕ} 0 1 = cc in omega arith)
   refusal-held (some s) e = cc
 
   -- what is answered is what the table gives
-  pub refused-exactly : (r : Refusal) → (x ≡ Refused r) ↔ (buildRefusal every n m lent ≡ some r)
+  pub refused-exactly : (r : Refusal) → (x ≡ Refused r) ↔ (buildRefusal every n m k lent ≡ some r)
   unfolding buildOf buildAnswer
-  refused-exactly r = (λ e. refusal-held (buildRefusal every n m lent) (sym is ∙ e), λ e. is ∙ rw e)
+  refused-exactly r = (λ e. refusal-held (buildRefusal every n m k lent) (sym is ∙ e), λ e. is ∙ rw e)
 
   -- "some post isn't joined to the source": 9 exactly where some post has no route, when nothing before refuses the net
-  pub nine-answered : NetSound every m n → LongEnough n lent → ((v : ℕ) × (x ≡ Refused (refusal 9 v))) ↔ ((v : ℕ) × (v < n .head .posts) × (Joined every n v → ⊥))
-  nine-answered z y = (
-    λ g. not-joined-exactly every m n lent z y .0 (g .0, refused-exactly (refusal 9 (g .0)) .0 (g .1)),
-    λ g. let h = not-joined-exactly every m n lent z y .1 g in (h .0, refused-exactly (refusal 9 (h .0)) .1 (h .1)),
+  pub nine-answered : NetSound every m n → LongEnough n lent → n .head .posts ≤ k → ((v : ℕ) × (x ≡ Refused (refusal 9 v))) ↔ ((v : ℕ) × (v < n .head .posts) × (Joined every n v → ⊥))
+  nine-answered z y h = (
+    λ g. not-joined-exactly every m n k lent z y h .0 (g .0, refused-exactly (refusal 9 (g .0)) .0 (g .1)),
+    λ g. let i = not-joined-exactly every m n k lent z y h .1 g in (i .0, refused-exactly (refusal 9 (i .0)) .1 (i .1)),
   )

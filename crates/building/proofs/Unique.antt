@@ -17,8 +17,8 @@ pub record SameOutcome (r r₂ : Answer) (l l₂ s s₂ w w₂ : List ℕ) : Typ
   pub shortest : s ≡ s₂
   pub between : w ≡ w₂
 
-pub build-one : (n : Net) (m : ℕ) (l s w : List ℕ) {r r₂ : Answer} {l′ l₂ s′ s₂ w′ w₂ : List ℕ} → Leaves n m l s w r l′ s′ w′ → Leaves n m l s w r₂ l₂ s₂ w₂ → SameOutcome r r₂ l′ l₂ s′ s₂ w′ w₂
-build-one n m l s w x y =
+pub build-one : (n : Net) (m k : ℕ) (l s w : List ℕ) {r r₂ : Answer} {l′ l₂ s′ s₂ w′ w₂ : List ℕ} → Leaves n m k l s w r l′ s′ w′ → Leaves n m k l s w r₂ l₂ s₂ w₂ → SameOutcome r r₂ l′ l₂ s′ s₂ w′ w₂
+build-one n m k l s w x y =
     record {
       answers = x .answer ∙ sym (y .answer);
       lightest = x .lightest ∙ sym (y .lightest);
@@ -36,5 +36,5 @@ answer-says (Built l s b k) = refl
 answer-says (Refused r) = refl
 
 -- so what building says is net's own answer
-pub build-says : (n : Net) (m : ℕ) (l s w : List ℕ) {r : Answer} → r ≡ answerOf (buildOf every n m (lentOf l s w)) → saysOf r ≡ buildOf every n m (lentOf l s w)
-build-says n m l s w e = rw e (says-answer (buildOf every n m (lentOf l s w)))
+pub build-says : (n : Net) (m k : ℕ) (l s w : List ℕ) {r : Answer} → r ≡ answerOf (buildOf every n m k (lentOf l s w)) → saysOf r ≡ buildOf every n m k (lentOf l s w)
+build-says n m k l s w e = rw e (says-answer (buildOf every n m k (lentOf l s w)))

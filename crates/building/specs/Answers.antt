@@ -37,10 +37,10 @@ saysOf (Refused r) = refused r
 abbrev pub lentOf : List ℕ → List ℕ → List ℕ → Lent
 lentOf l s b = record { lightest = length l; shortest = length s; between = length b }
 
--- BUILDING. What it leaves of a net n that claims m segments, where the three lists held l, s and w: its answer r, and
--- what the lists hold then
-pub record Leaves (n : Net) (m : ℕ) (l s w : List ℕ) (r : Answer) (l′ s′ w′ : List ℕ) : Type 0 where
-  pub answer : r ≡ answerOf (buildOf every n m (lentOf l s w))
-  pub lightest : l′ ≡ afterBuild every n m (lentOf l s w) Lightest l
-  pub shortest : s′ ≡ afterBuild every n m (lentOf l s w) Shortest s
-  pub between : w′ ≡ afterBuild every n m (lentOf l s w) Between w
+-- BUILDING. What it leaves of a net n that claims m segments and for which k ratios are lent, where the three lists
+-- held l, s and w: its answer r, and what the lists hold then
+pub record Leaves (n : Net) (m k : ℕ) (l s w : List ℕ) (r : Answer) (l′ s′ w′ : List ℕ) : Type 0 where
+  pub answer : r ≡ answerOf (buildOf every n m k (lentOf l s w))
+  pub lightest : l′ ≡ afterBuild every n m k (lentOf l s w) Lightest l
+  pub shortest : s′ ≡ afterBuild every n m k (lentOf l s w) Shortest s
+  pub between : w′ ≡ afterBuild every n m k (lentOf l s w) Between w

@@ -1,16 +1,19 @@
 // Building: the three trees of a net, with their lengths and radii and the count of laid paths.
-// Over the head by value and the segments as three slices side by side. Relies on `checks`, `trees` and `hanging`.
+// Over the head by value, the posts' own ratios as two slices side by side and the segments as three. Relies on
+// `checks`, `trees` and `hanging`.
 use net::Checked;
 use net::Head;
 use net::Measured;
 use net::Refusal;
+use net::plain::lesser;
 use trees::Prepared;
 ghost use mathlib.Core.Path.{_≡_};
 ghost use mathlib.Core.List.{_++_};
 ghost use Prim.Native.Nat.{_≤_};
 ghost use lib.ListN.{length as size, drop};
 ghost use Rattle.net.specs.Refusals.{refusal};
-ghost use Rattle.net.specs.Ready.{netBy, countBy, Ready};
+ghost use Rattle.net.specs.Ready.{netBy, countBy, ratioCountBy, Ready};
+ghost use Rattle.trees.specs.Ratios.{Plain, plainBy};
 ghost use Rattle.building.specs.Answers.{measuredIn, TreeOf, Leaves};
 ghost use Rattle.building.specs.declared.Answer.the-variants.{Built, Refused};
 
@@ -27,8 +30,8 @@ pub enum Answer {
 
 // Length and radius of a tree of a net.
 fn measure(head: Head, a: &[u16], b: &[u16], lengths: &[u32], tree: &[u16]) -> Measured
-    requires { ⌜ Ready head (now a) (now b) (now lengths) × TreeOf (netBy head a b lengths) (now tree) ⌝ }
-    ensures { λ r. ⌜ r ≡ measuredIn (netBy head (a .entry) (b .entry) (lengths .entry)) (now (tree .entry)) ⌝ }
+    requires { ⌜ Plain head (now a) (now b) (now lengths) × TreeOf (plainBy head a b lengths) (now tree) ⌝ }
+    ensures { λ r. ⌜ r ≡ measuredIn (plainBy head (a .entry) (b .entry) (lengths .entry)) (now (tree .entry)) ⌝ }
 {
     let posts = trees::index_of(head.posts);
     let length = hanging::whole_of(posts, lengths, tree);
@@ -83,13 +86,13 @@ fn answer_for(
     third: &[u16],
     laid: u32,
 ) -> Answer
-    requires { ⌜ Ready head (now a) (now b) (now lengths) ⌝ }
-    requires { ⌜ TreeOf (netBy head a b lengths) (now light) × TreeOf (netBy head a b lengths) (now short)
-        × TreeOf (netBy head a b lengths) (now third) ⌝ }
+    requires { ⌜ Plain head (now a) (now b) (now lengths) ⌝ }
+    requires { ⌜ TreeOf (plainBy head a b lengths) (now light) × TreeOf (plainBy head a b lengths) (now short)
+        × TreeOf (plainBy head a b lengths) (now third) ⌝ }
     ensures { λ r. ⌜ r ≡ Built
-        (measuredIn (netBy head (a .entry) (b .entry) (lengths .entry)) (now (light .entry)))
-        (measuredIn (netBy head (a .entry) (b .entry) (lengths .entry)) (now (short .entry)))
-        (measuredIn (netBy head (a .entry) (b .entry) (lengths .entry)) (now (third .entry))) laid ⌝ }
+        (measuredIn (plainBy head (a .entry) (b .entry) (lengths .entry)) (now (light .entry)))
+        (measuredIn (plainBy head (a .entry) (b .entry) (lengths .entry)) (now (short .entry)))
+        (measuredIn (plainBy head (a .entry) (b .entry) (lengths .entry)) (now (third .entry))) laid ⌝ }
 {
     Answer::Built {
         lightest: measure(head, a, b, lengths, light),
@@ -110,6 +113,8 @@ fn refuse(number: u32, place: u32) -> Answer
 // `short` and `third` are lent to work in.
 fn build_in(
     head: Head,
+    p: &[u32],
+    q: &[u32],
     a: &[u16],
     b: &[u16],
     lengths: &[u32],
@@ -120,19 +125,30 @@ fn build_in(
     shortest: &mut [u16],
     between: &mut [u16],
 ) -> Answer
-    requires { ⌜ Ready head (now a) (now b) (now lengths) ⌝ }
+    requires { ⌜ Ready head (now p) (now q) (now a) (now b) (now lengths) × (head .posts ≤ ratioCountBy p q) ⌝ }
     requires { ⌜ (size (now light) ≡ head .posts) × (size (now short) ≡ head .posts)
         × (size (now third) ≡ head .posts) ⌝ }
     requires { ⌜ (head .posts ≤ size (now lightest)) × (head .posts ≤ size (now shortest))
         × (head .posts ≤ size (now between)) ⌝ }
-    ensures { λ r. ⌜ Leaves (netBy head (a .entry) (b .entry) (lengths .entry))
-        (countBy (a .entry) (b .entry) (lengths .entry))
+    ensures { λ r. ⌜ Leaves (netBy head (p .entry) (q .entry) (a .entry) (b .entry) (lengths .entry))
+        (countBy (a .entry) (b .entry) (lengths .entry)) (ratioCountBy (p .entry) (q .entry))
         (now (lightest .entry)) (now (shortest .entry)) (now (between .entry)) r
         (now (lightest .exit)) (now (shortest .exit)) (now (between .exit)) ⌝ }
 {
     let posts = trees::index_of(head.posts);
     let mut dist = [0u64; trees::MOST_POSTS];
-    let says = trees::all_trees(head, a, b, lengths, &mut dist[..posts], light, short, third);
+    let says = trees::all_trees(
+        head,
+        p,
+        q,
+        a,
+        b,
+        lengths,
+        &mut dist[..posts],
+        light,
+        short,
+        third,
+    );
     match says {
         Prepared::Apart(v) => refuse(9, v),
         Prepared::Joined(laid) => {
@@ -145,6 +161,8 @@ fn build_in(
 // The same for lists that are long enough, with lists of its own to work in.
 fn build_long(
     head: Head,
+    p: &[u32],
+    q: &[u32],
     a: &[u16],
     b: &[u16],
     lengths: &[u32],
@@ -152,11 +170,11 @@ fn build_long(
     shortest: &mut [u16],
     between: &mut [u16],
 ) -> Answer
-    requires { ⌜ Ready head (now a) (now b) (now lengths) ⌝ }
+    requires { ⌜ Ready head (now p) (now q) (now a) (now b) (now lengths) × (head .posts ≤ ratioCountBy p q) ⌝ }
     requires { ⌜ (head .posts ≤ size (now lightest)) × (head .posts ≤ size (now shortest))
         × (head .posts ≤ size (now between)) ⌝ }
-    ensures { λ r. ⌜ Leaves (netBy head (a .entry) (b .entry) (lengths .entry))
-        (countBy (a .entry) (b .entry) (lengths .entry))
+    ensures { λ r. ⌜ Leaves (netBy head (p .entry) (q .entry) (a .entry) (b .entry) (lengths .entry))
+        (countBy (a .entry) (b .entry) (lengths .entry)) (ratioCountBy (p .entry) (q .entry))
         (now (lightest .entry)) (now (shortest .entry)) (now (between .entry)) r
         (now (lightest .exit)) (now (shortest .exit)) (now (between .exit)) ⌝ }
 {
@@ -166,6 +184,8 @@ fn build_long(
     let mut third = [0u16; trees::MOST_POSTS];
     build_in(
         head,
+        p,
+        q,
         a,
         b,
         lengths,
@@ -178,9 +198,12 @@ fn build_long(
     )
 }
 
-// BUILDING of a net that nothing from 1 to 7 refuses: 8, then 9, or the answer.
+// BUILDING of a net that nothing from 1 to 7 refuses: 8 of the three tree lists and of the lists of ratios, whatever
+// the form, then 9, or the answer.
 pub fn build_sound(
     head: Head,
+    p: &[u32],
+    q: &[u32],
     a: &[u16],
     b: &[u16],
     lengths: &[u32],
@@ -188,9 +211,9 @@ pub fn build_sound(
     shortest: &mut [u16],
     between: &mut [u16],
 ) -> Answer
-    requires { ⌜ Ready head (now a) (now b) (now lengths) ⌝ }
-    ensures built { λ r. ⌜ Leaves (netBy head (a .entry) (b .entry) (lengths .entry))
-        (countBy (a .entry) (b .entry) (lengths .entry))
+    requires { ⌜ Ready head (now p) (now q) (now a) (now b) (now lengths) ⌝ }
+    ensures built { λ r. ⌜ Leaves (netBy head (p .entry) (q .entry) (a .entry) (b .entry) (lengths .entry))
+        (countBy (a .entry) (b .entry) (lengths .entry)) (ratioCountBy (p .entry) (q .entry))
         (now (lightest .entry)) (now (shortest .entry)) (now (between .entry)) r
         (now (lightest .exit)) (now (shortest .exit)) (now (between .exit)) ⌝ }
 {
@@ -204,14 +227,20 @@ pub fn build_sound(
     if between.len() < posts {
         return refuse(8, 0);
     }
-    build_long(head, a, b, lengths, lightest, shortest, between)
+    if lesser(p.len(), q.len()) < posts {
+        return refuse(8, 0);
+    }
+    build_long(head, p, q, a, b, lengths, lightest, shortest, between)
 }
 
-// BUILDING, for every input. "1, 2, 3, 4; then for each segment in turn 5, 6, 7; then 8; then 9." The trees' entries go
-// into the three lent lists; after a refusal they hold what they held before. The net's segments are as many as the
-// shortest of the three slices has places.
+// BUILDING, for every input. "1, 2, 3, 4; then for each segment in turn 5, 6, 7; then 8; then 9", with the posts' 3
+// after the head's 4. The trees' entries go into the three lent lists; after a refusal they hold what they held before.
+// The net's segments are as many as the shortest of their three slices has places; the posts' own ratios, p and q, are
+// read as far as both go, and only in the second form.
 pub fn build(
     head: Head,
+    p: &[u32],
+    q: &[u32],
     a: &[u16],
     b: &[u16],
     lengths: &[u32],
@@ -219,18 +248,20 @@ pub fn build(
     shortest: &mut [u16],
     between: &mut [u16],
 ) -> Answer
-    ensures built { λ r. ⌜ Leaves (netBy head (a .entry) (b .entry) (lengths .entry))
-        (countBy (a .entry) (b .entry) (lengths .entry))
+    ensures built { λ r. ⌜ Leaves (netBy head (p .entry) (q .entry) (a .entry) (b .entry) (lengths .entry))
+        (countBy (a .entry) (b .entry) (lengths .entry)) (ratioCountBy (p .entry) (q .entry))
         (now (lightest .entry)) (now (shortest .entry)) (now (between .entry)) r
         (now (lightest .exit)) (now (shortest .exit)) (now (between .exit)) ⌝ }
 {
-    let says = checks::check(head, a, b, lengths);
+    let says = checks::check(head, p, q, a, b, lengths);
     if let Checked::Refused(r) = says {
         return Answer::Refused(r);
     }
     let m = checks::segment_count(a, b, lengths);
     build_sound(
         head,
+        p,
+        q,
         &a[..m],
         &b[..m],
         &lengths[..m],

@@ -1,6 +1,7 @@
 -- What a thin function takes and gives: plain data, lent slices, plain data back. It says nothing of the crate.
 --     Data             a type that owns only facts.       number w, truth, unit, struct T, enum T, array D n
---     Kind n           a parameter: data, a `&[T]`, a `&mut [T]` (which the body passes on for good), of a function of n lifetimes
+--     Held n           a type that may hold a `&`, over n lifetimes: what a value of it owns is not made anew of its facts
+--     Kind n           a parameter: data, a `&[T]`, a `&mut [T]` (which the body passes on for good), a `Held` that goes, of a function of n lifetimes
 --     thin n ks D      the `Ended` of a function of n lifetimes, the parameters ks and the result D: a generated `ended` is one by computation
 --     facts, lens      of each parameter that is data its relation; of each `&mut [T]` that its last list is as long as the first
 -- Rests on the kit's types and their laws (`denote`). Assumes nothing.
@@ -32,7 +33,7 @@ use denote.Enum.Enum.{Plainss, Few}
 use denote.Enum.Laws as EL
 use denote.Triple.End.{Kepts, Fins}
 use denote.Triple.Clauses.{Ended}
-use denote.Triple.Walked.{Stay, stay-none, stay-none-slice, gave-slice, Stays, fitsOf}
+use denote.Triple.Walked.{Stay, stay-none, stay-none-slice, stay-dropped, gave-slice, Stays, fitsOf}
 
 -- DATA
 pub record Data : Type 2 where
@@ -71,17 +72,30 @@ array D n = record {
   still = λ i. each-of (D .still i);
 }
 
+-- TYPES THAT MAY HOLD A `&`
+pub record Held (n : ℕ) : Type 2 where
+  pub row : Lfts n → RattleType
+  pub val : (κs : Lfts n) → row κs .Denot → Val
+  pub tells : (κs : Lfts n) → Tells (row κs) (Is (row κs)) (λ x. val κs x ∷ [])
+  pub lawful : {M : Type 1} (𝓤 : URA M) (H : Heap 𝓤) (A : Atoms 𝓤) → Given 𝓤 H A → (κs : Lfts n) → Lawful 𝓤 H A (row κs)
+  pub still : (κs : Lfts n) → row κs .exit yes ≡ unchanged
+
+pub held-silent : {n : ℕ} (k : Held n) (κs : Lfts n) (x : k .row κs .Denot) (f : Last (k .row κs .exit yes) x) → left (k .row κs .exit yes) x f ≡ ftrue
+held-silent k κs x = subst (λ (e : Exit (k .row κs .Denot)). (f : Last e x) → left e x f ≡ ftrue) (sym (k .still κs)) (λ f. refl)
+
 -- PARAMETERS
 pub data Kind (n : ℕ) : Type 2 where
   dat : Data → Kind n
   shr : (j : ℕ) → Within n j → RattleType → Kind n
   own : (j : ℕ) → Within n j → RattleType → Kind n
+  hld : Held n → Kind n
 
 module _ {n : ℕ} where
   abbrev pub slot : Kind n → Slot n
   slot (dat D) = plain (λ _. D .row)
   slot (shr j ok R) = shrSliceOf (j ∷ []) ok (plain (λ _. R))
   slot (own j ok R) = mutSliceOf (j ∷ []) ok (plain (λ _. R))
+  slot (hld k) = plain (k .row)
 
   abbrev pub slots : List (Kind n) → List (Slot n)
   slots [] = []
@@ -95,6 +109,7 @@ module _ {n : ℕ} where
   stay (dat D) = stay-none (λ _. D .row) yes
   stay (shr j ok R) = stay-none-slice (j ∷ []) ok (plain (λ _. R)) yes
   stay (own j ok R) = gave-slice (j ∷ []) ok (plain (λ _. R))
+  stay (hld k) = stay-dropped (plain (k .row)) yes
 
   abbrev pub stays : (ks : List (Kind n)) → Stays (slots ks) (kepts ks)
   stays [] = tt
@@ -105,6 +120,7 @@ module _ {n : ℕ} where
     spell (dat D) x = D .val x ∷ []
     spell (shr j ok R) x = slice-vals x
     spell (own j ok R) x = slice-vals x
+    spell (hld k) x = k .val κs x ∷ []
 
     abbrev pub spells : (ks : List (Kind n)) → Spells (typesAt (slots ks) κs)
     spells [] = tt
@@ -114,6 +130,7 @@ module _ {n : ℕ} where
     tell (dat D) = D .tells
     tell (shr j ok R) = shr-slice-tells (named j) (lftAt n j ok κs) R
     tell (own j ok R) = mut-slice-tells (named j) (lftAt n j ok κs) R
+    tell (hld k) = k .tells κs
 
     pub tellsAll : (ks : List (Kind n)) → Tellss (typesAt (slots ks) κs) (Ises (typesAt (slots ks) κs)) (spells ks)
     tellsAll [] = tt
@@ -140,24 +157,28 @@ module _ {n : ℕ} where
     facts (dat D ∷ ks) a = Is (D .row) (a .0) (D .val (a .0) ∷ []) × facts ks (a .1)
     facts (shr j ok R ∷ ks) a = facts ks (a .1)
     facts (own j ok R ∷ ks) a = facts ks (a .1)
+    facts (hld k ∷ ks) a = facts ks (a .1)
 
     pub related-facts : (ks : List (Kind n)) (a : Denoted ks) → Related ks a → facts ks a
     related-facts [] a g = tt
     related-facts (dat D ∷ ks) a g = (g .0, related-facts ks (a .1) (g .1))
     related-facts (shr j ok R ∷ ks) a g = related-facts ks (a .1) (g .1)
     related-facts (own j ok R ∷ ks) a g = related-facts ks (a .1) (g .1)
+    related-facts (hld k ∷ ks) a g = related-facts ks (a .1) (g .1)
 
     abbrev pub lens : (ks : List (Kind n)) (a : Denoted ks) → Ends ks a → Type 0
     lens [] a ws = Unit {0}
     lens (dat D ∷ ks) a ws = lens ks (a .1) (ws .1)
     lens (shr j ok R ∷ ks) a ws = lens ks (a .1) (ws .1)
     lens (own j ok R ∷ ks) a ws = (length (ws .0) ≡ length (now (a .0))) × lens ks (a .1) (ws .1)
+    lens (hld k ∷ ks) a ws = lens ks (a .1) (ws .1)
 
     pub fit : (ks : List (Kind n)) (a : Denoted ks) (ws : Ends ks a) → lens ks a ws → fitsOf κs (slots ks) (kepts ks) (stays ks) a ws
     fit [] a ws l = tt
     fit (dat D ∷ ks) a ws l = (tt, fit ks (a .1) (ws .1) l)
     fit (shr j ok R ∷ ks) a ws l = (tt, fit ks (a .1) (ws .1) l)
     fit (own j ok R ∷ ks) a ws l = (l .0, fit ks (a .1) (ws .1) (l .1))
+    fit (hld k ∷ ks) a ws l = (tt, fit ks (a .1) (ws .1) l)
 
 abbrev pub thin : (n : ℕ) → List (Kind n) → Data → Ended
 thin n ks D = record { signature = record { lifetimes = n; outlives = []; params = slots ks; result = plain (λ _. D .row) }; kept = kepts ks }

@@ -2,7 +2,7 @@
 --     begins           the locals are allocated and the arguments stored: local i then stands at position i, and that all of them die behind them
 --     at, big, args    a local read, a constant above 1023, and the operands of a call: local i stands at position k + i
 --     counts, relends  `let n = s.len()`, and a `&mut [T]` lent on.        spans       a local array as a slice
---     calls            a call of a `Callee`: at the head of the context stand its tokens and then its references, in its order
+--     calls            a call of a `Callee`: at the head of the context stand its tokens and then what its references and its `Held` own, in its order
 --     gone, gone-room  a local is freed
 -- Rests on `Thin` and on the kit's steps (`types.Run`). Assumes `Given`.
 use mathlib.Core.Path.{_≡_, refl, sym, ap, subst}
@@ -37,7 +37,7 @@ use denote.Triple.End.{lastsOf}
 use denote.Triple.Spec.{tripleOf}
 use denote.Triple.Clauses.{atExit, closing}
 use denote.Triple.Call.{calls-at}
-use Rattle.by_hand.proofs.Params.{Kind, slots, kepts, Denoted, vals, passed, Ends, facts, lens, thin, dat, shr, own}
+use Rattle.by_hand.proofs.Params.{Kind, slots, kepts, Denoted, vals, passed, Ends, facts, lens, thin, dat, shr, own, hld}
 use Rattle.by_hand.proofs.Thin.{tokens, refs, keeps, lefts, cons-in, cons-out, toks-out, toks-in, owns-in, refs-keep, Callee}
 
 -- A FUNCTION'S LOCALS, in order
@@ -210,6 +210,7 @@ module _ {M : Type 1} {𝓤 : URA M} {H : Heap 𝓤} {A : Atoms 𝓤} {K : Type 
   lasts-open : K → {n : ℕ} (κs : Lfts n) (ks : List (Kind n)) (a : Denoted κs ks) (ws : Ends κs ks a) {Γ : List (Item 𝓤)} {G : Goal 𝓤 H} → (lens κs ks a ws → Seq K W (lefts 𝓤 κs ks a ws ++ Γ) G) → Seq K W (‵ (lastsOf κs (slots ks) (kepts ks) a ws) ∷ raw (⋆ 𝓤 H A (keeps 𝓤 κs ks a)) ∷ Γ) G
   lasts-open t κs [] a ws k = drop t $ drop t $ k tt
   lasts-open t κs (dat D ∷ ks) a ws k = fsplit t $ drop t $ lasts-open t κs ks (a .1) (ws .1) k
+  lasts-open t κs (hld h ∷ ks) a ws k = fsplit t $ drop t $ lasts-open t κs ks (a .1) (ws .1) k
   lasts-open t {n} κs (shr j ok R ∷ ks) a ws {Γ} k = fsplit t $ drop t $ move t (1 ∷ []) $
       use1 W (‵ (ShrSlice (named j) (lftAt n j ok κs) R .own (a .0) (slice-vals (a .0))) ⊛ raw (⋆ 𝓤 H A (keeps 𝓤 κs ks (a .1)))) (pop 𝓤 H A (‵ (ShrSlice (named j) (lftAt n j ok κs) R .own (a .0) (slice-vals (a .0)))) (keeps 𝓤 κs ks (a .1))) $ split t $ move t (2 ∷ 1 ∷ []) $
       lasts-open t κs ks (a .1) (ws .1) (λ l. rises t (lefts 𝓤 κs ks (a .1) (ws .1)) (‵ (ShrSlice (named j) (lftAt n j ok κs) R .own (a .0) (slice-vals (a .0)))) Γ $ k l)

@@ -1,5 +1,5 @@
 -- From the walk of a thin function to its contract, and the contract as a caller's walk has it. It says nothing of the crate.
---     tokens, refs, lefts              the lifetimes' tokens; what the references own at entry; what is left of them at exit, where of each `&mut [T]` its last list is said
+--     tokens, refs, lefts              the lifetimes' tokens; what the references and each `Held` own at entry; what is left of them at exit, where of each `&mut [T]` its last list is said
 --     Walk             what the author of a walk proves.        solved        takes it to the function's statement
 --     Callee, callee   a function that meets its contract
 -- Rests on `Params` and on the kit's way from a walk to a contract (`denote.Triple`). Assumes `Given`.
@@ -29,8 +29,8 @@ use denote.Triple.Spec.{tripleOf, Meets}
 use denote.Triple.Statement.{Contract, Triple}
 use denote.Triple.Table.{entered, cited}
 use denote.Triple.Clauses.{Clauses, atExit, closing}
-use denote.Triple.Walked.{hasOf, walkOf, ends-at, walked, Goes, goes-none, goes-none-slice, goes-gave-slice, AllGo, walk-meets}
-use Rattle.by_hand.proofs.Params.{Data, silent, Kind, slot, slots, kepts, stay, stays, spells, tellsAll, Denoted, vals, passed, Related, Ends, facts, related-facts, lens, fit, thin, dat, shr, own}
+use denote.Triple.Walked.{hasOf, walkOf, ends-at, walked, Goes, goes-none, goes-none-slice, goes-gave-slice, goes-silent, stay-dropped, AllGo, walk-meets}
+use Rattle.by_hand.proofs.Params.{Data, silent, held-silent, Kind, slot, slots, kepts, stay, stays, spells, tellsAll, Denoted, vals, passed, Related, Ends, facts, related-facts, lens, fit, thin, dat, shr, own, hld}
 
 -- WHAT IS IN THE CONTEXT
 module _ {M : Type 1} (𝓤 : URA M) where
@@ -44,18 +44,21 @@ module _ {M : Type 1} (𝓤 : URA M) where
     refs (dat D ∷ ks) a = refs ks (a .1)
     refs (shr j ok R ∷ ks) a = ‵ (ShrSlice (named j) (lftAt n j ok κs) R .own (a .0) (slice-vals (a .0))) ∷ refs ks (a .1)
     refs (own j ok R ∷ ks) a = ‵ (MutSlice (named j) (lftAt n j ok κs) R .own (a .0) (slice-vals (a .0))) ∷ refs ks (a .1)
+    refs (hld k ∷ ks) a = ‵ (k .row κs .own (a .0) (k .val κs (a .0) ∷ [])) ∷ refs ks (a .1)
 
     abbrev pub keeps : (ks : List (Kind n)) → Denoted κs ks → List (Item 𝓤)
     keeps [] a = []
     keeps (dat D ∷ ks) a = keeps ks (a .1)
     keeps (shr j ok R ∷ ks) a = ‵ (ShrSlice (named j) (lftAt n j ok κs) R .own (a .0) (slice-vals (a .0))) ∷ keeps ks (a .1)
     keeps (own j ok R ∷ ks) a = keeps ks (a .1)
+    keeps (hld k ∷ ks) a = keeps ks (a .1)
 
     abbrev pub lefts : (ks : List (Kind n)) (a : Denoted κs ks) → Ends κs ks a → List (Item 𝓤)
     lefts [] a ws = []
     lefts (dat D ∷ ks) a ws = lefts ks (a .1) (ws .1)
     lefts (shr j ok R ∷ ks) a ws = ‵ (ShrSlice (named j) (lftAt n j ok κs) R .own (a .0) (slice-vals (a .0))) ∷ lefts ks (a .1) (ws .1)
     lefts (own j ok R ∷ ks) a ws = ‵ (finally R (name (a .0)) (ws .0)) ∷ lefts ks (a .1) (ws .1)
+    lefts (hld k ∷ ks) a ws = lefts ks (a .1) (ws .1)
 
 module _ {M : Type 1} (𝓤 : URA M) (H : Heap 𝓤) (A : Atoms 𝓤) (W : Given 𝓤 H A) where
   abbrev St : List (Item 𝓤) → SProp 𝓤
@@ -69,6 +72,10 @@ module _ {M : Type 1} (𝓤 : URA M) (H : Heap 𝓤) (A : Atoms 𝓤) (W : Given
 
   made : (P : SProp 𝓤) {Q R : SProp 𝓤} → ent 𝓤 (emp 𝓤) P → ent 𝓤 Q R → ent 𝓤 Q (sep 𝓤 P R)
   made P {Q} h k = via 𝓤 (sep 𝓤 (emp 𝓤) Q) (emp∗ 𝓤 Q) (mono∗ 𝓤 h k)
+
+  -- an entry of which nothing is kept
+  goes-by : (X : Fml) (Γ Δ : List (Item 𝓤)) → ent 𝓤 (St Γ) (sep 𝓤 (St Γ) (St Δ)) → ent 𝓤 (St (‵ X ∷ Γ)) (sep 𝓤 (St (‵ X ∷ Γ)) (St Δ))
+  goes-by X Γ Δ h = via 𝓤 _ (cons-out (‵ X) Γ h) (via 𝓤 _ (assoc′ 𝓤 (sem 𝓤 H A X) (St Γ) (St Δ)) (monoL 𝓤 (St Δ) (push 𝓤 H A (‵ X) Γ)))
 
   pub toks-out : (n : ℕ) (κs : Lfts n) (qs : Shares n) → ent 𝓤 (toks 𝓤 A n κs qs) (St (tokens 𝓤 n κs qs))
   toks-out zero κs qs = id⊢ 𝓤 (emp 𝓤)
@@ -84,12 +91,14 @@ module _ {M : Type 1} (𝓤 : URA M) (H : Heap 𝓤) (A : Atoms 𝓤) (W : Given
     owns-out (dat D ∷ ks) a = via 𝓤 _ (snd∗ 𝓤 (sem 𝓤 H A (D .row .own (a .0) (D .val (a .0) ∷ []))) (sem 𝓤 H A (owns (typesAt (slots ks) κs) (a .1) (vals κs ks (a .1))))) (owns-out ks (a .1))
     owns-out (shr j ok R ∷ ks) a = cons-in (‵ (ShrSlice (named j) (lftAt n j ok κs) R .own (a .0) (slice-vals (a .0)))) (refs 𝓤 κs ks (a .1)) (owns-out ks (a .1))
     owns-out (own j ok R ∷ ks) a = cons-in (‵ (MutSlice (named j) (lftAt n j ok κs) R .own (a .0) (slice-vals (a .0)))) (refs 𝓤 κs ks (a .1)) (owns-out ks (a .1))
+    owns-out (hld k ∷ ks) a = cons-in (‵ (k .row κs .own (a .0) (k .val κs (a .0) ∷ []))) (refs 𝓤 κs ks (a .1)) (owns-out ks (a .1))
 
     pub owns-in : (ks : List (Kind n)) (a : Denoted κs ks) → facts κs ks a → ent 𝓤 (St (refs 𝓤 κs ks a)) (sem 𝓤 H A (owns (typesAt (slots ks) κs) a (vals κs ks a)))
     owns-in [] a f = id⊢ 𝓤 (emp 𝓤)
     owns-in (dat D ∷ ks) a f = made _ (D .makes 𝓤 H A W (a .0) (D .val (a .0) ∷ []) (f .0)) (owns-in ks (a .1) (f .1))
     owns-in (shr j ok R ∷ ks) a f = cons-out (‵ (ShrSlice (named j) (lftAt n j ok κs) R .own (a .0) (slice-vals (a .0)))) (refs 𝓤 κs ks (a .1)) (owns-in ks (a .1) f)
     owns-in (own j ok R ∷ ks) a f = cons-out (‵ (MutSlice (named j) (lftAt n j ok κs) R .own (a .0) (slice-vals (a .0)))) (refs 𝓤 κs ks (a .1)) (owns-in ks (a .1) f)
+    owns-in (hld k ∷ ks) a f = cons-out (‵ (k .row κs .own (a .0) (k .val κs (a .0) ∷ []))) (refs 𝓤 κs ks (a .1)) (owns-in ks (a .1) f)
 
     -- what can be copied is kept
     pub refs-keep : (ks : List (Kind n)) (a : Denoted κs ks) → ent 𝓤 (St (refs 𝓤 κs ks a)) (sep 𝓤 (St (refs 𝓤 κs ks a)) (St (keeps 𝓤 κs ks a)))
@@ -101,20 +110,21 @@ module _ {M : Type 1} (𝓤 : URA M) (H : Heap 𝓤) (A : Atoms 𝓤) (W : Given
         (via 𝓤 (sep 𝓤 (sep 𝓤 (sem 𝓤 H A X) Y) (sep 𝓤 (sem 𝓤 H A X) Z))
         (qed W (‵ X ∷ (raw Y ⊛ raw Z) ∷ []) ∵ use1 W (‵ X ⊛ ‵ X) (shr-slice-copy 𝓤 H A W (named j) (lftAt n j ok κs) R .twice (a .0) (slice-vals (a .0))) $ split ! $ move ! (2 ∷ []) $ split ! $ move ! (2 ∷ 0 ∷ []) $ join ! $ frame ! $ move ! (1 ∷ 0 ∷ []) $ done !)
         (mono∗ 𝓤 (push 𝓤 H A (‵ X) (refs 𝓤 κs ks (a .1))) (push 𝓤 H A (‵ X) (keeps 𝓤 κs ks (a .1)))))
-    refs-keep (own j ok R ∷ ks) a =
-        let X : Fml = MutSlice (named j) (lftAt n j ok κs) R .own (a .0) (slice-vals (a .0)) in let Y = St (refs 𝓤 κs ks (a .1)) in let Z = St (keeps 𝓤 κs ks (a .1)) in
-        via 𝓤 _ (cons-out (‵ X) (refs 𝓤 κs ks (a .1)) (refs-keep ks (a .1))) (via 𝓤 _ (assoc′ 𝓤 (sem 𝓤 H A X) Y Z) (monoL 𝓤 Z (push 𝓤 H A (‵ X) (refs 𝓤 κs ks (a .1)))))
+    refs-keep (own j ok R ∷ ks) a = goes-by (MutSlice (named j) (lftAt n j ok κs) R .own (a .0) (slice-vals (a .0))) (refs 𝓤 κs ks (a .1)) (keeps 𝓤 κs ks (a .1)) (refs-keep ks (a .1))
+    refs-keep (hld k ∷ ks) a = goes-by (k .row κs .own (a .0) (k .val κs (a .0) ∷ [])) (refs 𝓤 κs ks (a .1)) (keeps 𝓤 κs ks (a .1)) (refs-keep ks (a .1))
 
     has-in : (ks : List (Kind n)) (a : Denoted κs ks) (ws : Ends κs ks a) → facts κs ks a → ent 𝓤 (St (lefts 𝓤 κs ks a ws)) (sem 𝓤 H A (hasOf κs (slots ks) (kepts ks) (stays ks) a ws (vals κs ks a)))
     has-in [] a ws f = id⊢ 𝓤 (emp 𝓤)
     has-in (dat D ∷ ks) a ws f = made _ (D .makes 𝓤 H A W (a .0) (D .val (a .0) ∷ []) (f .0)) (has-in ks (a .1) (ws .1) (f .1))
     has-in (shr j ok R ∷ ks) a ws f = cons-out (‵ (ShrSlice (named j) (lftAt n j ok κs) R .own (a .0) (slice-vals (a .0)))) (lefts 𝓤 κs ks (a .1) (ws .1)) (has-in ks (a .1) (ws .1) f)
     has-in (own j ok R ∷ ks) a ws f = cons-out (‵ (finally R (name (a .0)) (ws .0))) (lefts 𝓤 κs ks (a .1) (ws .1)) (has-in ks (a .1) (ws .1) f)
+    has-in (hld k ∷ ks) a ws f = made (emp 𝓤) (id⊢ 𝓤 (emp 𝓤)) (has-in ks (a .1) (ws .1) f)
 
   law : {n : ℕ} (κs : Lfts n) (k : Kind n) → Lawful 𝓤 H A (slot k .row κs)
   law κs (dat D) = D .lawful 𝓤 H A W
   law {n} κs (shr j ok R) = shr-slice-lawful 𝓤 H A W (named j) (lftAt n j ok κs) R
   law {n} κs (own j ok R) = mut-slice-lawful 𝓤 H A W (named j) (lftAt n j ok κs) R
+  law κs (hld k) = k .lawful 𝓤 H A W κs
 
   laws : {n : ℕ} (κs : Lfts n) (ks : List (Kind n)) → Lawfuls 𝓤 H A (typesAt (slots ks) κs)
   laws κs [] = tt
@@ -128,6 +138,7 @@ module _ {M : Type 1} (𝓤 : URA M) (H : Heap 𝓤) (A : Atoms 𝓤) (W : Given
   goes {n} (dat D) = goes-none 𝓤 H A W n (λ _. D .row) yes (λ κs x f. silent D x f)
   goes {n} (shr j ok R) = goes-none-slice 𝓤 H A W n (j ∷ []) ok (plain (λ _. R)) yes
   goes {n} (own j ok R) = goes-gave-slice 𝓤 H A W n j ok (plain (λ _. R))
+  goes {n} (hld k) = goes-silent 𝓤 H A W n (plain (k .row)) yes (stay-dropped (plain (k .row)) yes) (held-silent k)
 
   all-go : {n : ℕ} (ks : List (Kind n)) → AllGo 𝓤 H A W n (slots ks) (kepts ks) (stays ks)
   all-go [] = tt

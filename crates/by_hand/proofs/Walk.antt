@@ -19,7 +19,7 @@ pub use contract.Monad.{factI}
 pub use contract.Running.{GhostRules, Running, givenOf}
 pub use types.Kit.{Given, Item, put, ‵, _$_, !, by, move, keep, drop, rewrite, fsplit, fjoin}
 pub use types.Part.{agg, whole, sub, look-in}
-pub use types.Run.{look, look-raw, store, store-raw, init, forget, stop, hop, fld, from, load, lit, unit-lit, of-opd, and-then, no-more, bin, assigns, assigns-last, stays, leaves-loop, land, returns, free0}
+pub use types.Run.{look, look-raw, store, store-raw, init, forget, stop, hop, fld, from, load, lit, unit-lit, of-opd, and-then, no-more, bin, un, assigns, assigns-last, stays, leaves-loop, land, returns, free0}
 pub use denote.Builtin.{u8, u16, u32}
 pub use denote.Laws.{Is, shows}
 pub use denote.Ref.{now, ptr, name}
@@ -28,7 +28,7 @@ pub use denote.Slice.{Room, sliceTy, sliceVal, at-slice, slice-vals}
 pub use denote.Memory.{lone}
 pub use denote.Index.{row, place-is, elem-out, elem-back, elem-put, looks-slice, shuts-slice, opens-slice, closes-slice}
 pub use denote.Steps.{owned, heard, facts as let-go}
-pub use Rattle.by_hand.proofs.Params.{Kind, dat, shr, own, unit, truth}
+pub use Rattle.by_hand.proofs.Params.{Kind, dat, shr, own, hld, unit, truth}
 pub use Rattle.by_hand.proofs.Thin.{Walk, Over, Callee, callee, solved}
 pub use Rattle.by_hand.proofs.Steps.{begins, at, counts, relends, spans, args, calls, gone, gone-room}
 pub use Rattle.by_hand.proofs.Loops.{turns, upto, tests, holds, fails, data-copy, finishes, lends-mut, returned-mut, lends-array, array-back, lends-array-mut, array-back-mut}

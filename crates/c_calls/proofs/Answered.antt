@@ -1,9 +1,8 @@
 -- From what `on_records` and `drawn` answer to what the functions for C leave: one law for each case of an answer. Relies on the contracts of `on_records` and on c_numbers' `Fronts`.
-use mathlib.Core.Path.{_≡_, refl, sym, ap, _∙_}
+use mathlib.Core.Path.{_≡_, sym, ap, _∙_}
 use mathlib.Core.List.{List, [], _∷_}
 use Prim.Native.Nat.{ℕ}
 use lib.IntN.{ℤ}
-use lib.ListN.{length}
 use Rattle.net.specs.declared.Head.{Head}
 use Rattle.net.specs.declared.Measured.{Measured}
 use Rattle.net.specs.declared.Refusal.{Refusal}

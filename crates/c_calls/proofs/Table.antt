@@ -8,7 +8,7 @@ use Prim.Native.Nat.{ℕ, _≤_}
 use native.Mathlib.Omega.{arith}
 use lib.ListN.{length}
 use lib.Ieee.{Float}
-use Rattle.net.specs.Net.{Net, every, mostSegments}
+use Rattle.net.specs.Net.{Net, every, mostPosts, mostSegments}
 use Rattle.net.specs.Refusals.{Lent}
 use Rattle.net.specs.Building.{buildRefusal, buildAnswer, buildOf, marginRefusal, marginAnswer, marginOf}
 use Rattle.net.specs.declared.Head.{Head}
@@ -19,10 +19,11 @@ use Rattle.margins.specs.Answers.{marginAnswerOf}
 use Rattle.margins.specs.declared.MarginAnswer.the-variants.{Refused as Unmeasured}
 use Rattle.numbers.specs.Numbers.{Bytes, Got, got, refused}
 use Rattle.net.specs.Rules.{BuildRule, MarginRule}
-use Rattle.net.proofs.Faults.{head-range, segment-range, faulty-range}
+use Rattle.net.proofs.Faults.{head-range, ratio-range, segment-range, faulty-range}
 use Rattle.net.proofs.Refusals.{build-answers, margin-answers}
 use Rattle.numbers.specs.Rules.{NumberRule}
-use Rattle.reading.specs.Rules.{ReadRule, head-ten-eleven, one-to-four, eight, segment-ten-eleven, five-to-seven, twelve, good}
+use Rattle.reading.specs.Rules.{HeadBreaks, at-first, of-five, of-six}
+use Rattle.reading.specs.Rules.{ReadRule, head-ten-eleven, one-to-four, eight, post-ten-eleven, three-of-post, segment-ten-eleven, five-to-seven, twelve, good}
 use Rattle.writing.specs.Rules.{WriteRule}
 use Rattle.writing.specs.Writing.{netWritten, writeRefusal}
 use Rattle.writing.specs.Answers.{writeAnswerBy, writeAnswerOf}
@@ -52,30 +53,32 @@ packed-not-zero r h e = omega arith
 fault-listed : {n : ℕ} → (1 ≤ n) × (n ≤ 7) → InTable n
 fault-listed h = omega arith
 
--- BUILDING, WRITING AND MARGIN, by their rules
-module _ (n : Net) (m : ℕ) where
-  build-refusal : (lent : Lent) {r : Refusal} → buildRefusal every n m lent ≡ some r → InTable (r .number)
-  build-refusal lent e = go (rw e at (build-answers every m n lent))
+-- BUILDING, WRITING AND MARGIN, by their rules: a net that claims m segments, with k ratios lent
+module _ (n : Net) (m k : ℕ) where
+  build-refusal : (lent : Lent) {r : Refusal} → buildRefusal every n m k lent ≡ some r → InTable (r .number)
+  build-refusal lent e = go (rw e at (build-answers every m n k lent))
     where
-      go : {q : Refusal} → BuildRule every m n lent (some q) → InTable (q .number)
+      go : {q : Refusal} → BuildRule every m n k lent (some q) → InTable (q .number)
       go (BuildRule.one-to-seven f) = fault-listed (faulty-range every m n f)
       go (BuildRule.eight z l) = omega arith
-      go (BuildRule.nine z l a) = omega arith
+      go (BuildRule.nine z l i a) = omega arith
 
-  write-refusal : (room : ℕ) {r : Refusal} → writeRefusal n m room ≡ some r → InTable (r .number)
-  write-refusal room e = go (rw e at (write-answers m n room))
+  write-refusal : (room : ℕ) {r : Refusal} → writeRefusal n m k room ≡ some r → InTable (r .number)
+  write-refusal room e = go (rw e at (write-answers m n k room))
     where
-      go : {q : Refusal} → WriteRule m n room (some q) → InTable (q .number)
+      go : {q : Refusal} → WriteRule m n k room (some q) → InTable (q .number)
       go (WriteRule.one-to-seven f) = fault-listed (faulty-range every m n f)
-      go (WriteRule.eighteen z l) = omega arith
+      go (WriteRule.eight z l) = omega arith
+      go (WriteRule.eighteen z i l) = omega arith
 
-  margin-refusal : (post : ℕ) {r : Refusal} → marginRefusal every n m post ≡ some r → InTable (r .number)
-  margin-refusal post e = go (rw e at (margin-answers every m n post))
+  margin-refusal : (post : ℕ) {r : Refusal} → marginRefusal every n m k post ≡ some r → InTable (r .number)
+  margin-refusal post e = go (rw e at (margin-answers every m n k post))
     where
-      go : {q : Refusal} → MarginRule every m n post (some q) → InTable (q .number)
+      go : {q : Refusal} → MarginRule every m n k post (some q) → InTable (q .number)
       go (MarginRule.one-to-seven f) = fault-listed (faulty-range every m n f)
-      go (MarginRule.nine z a) = omega arith
-      go (MarginRule.nineteen z a l) = omega arith
+      go (MarginRule.eight z l) = omega arith
+      go (MarginRule.nine z i a) = omega arith
+      go (MarginRule.nineteen z i a l) = omega arith
 
 -- READING, by its rules
 abbrev ListedGot : {X : Type 0} → Got X → Type 0
@@ -89,18 +92,25 @@ module _ (bytes : List ℕ) where
   number-rule (NumberRule.eleven-zero h k l m e) = omega arith
   number-rule (NumberRule.eleven-more h) = omega arith
 
-  read-rule : {room : ℕ} {g : Got Net} → ReadRule bytes room g → ListedGot g
-  read-rule (head-ten-eleven b) = number-rule (b .refuses)
+  head-breaks : {r : Refusal} → HeadBreaks bytes r → InTable (r .number)
+  head-breaks (at-first s) = number-rule s
+  head-breaks (of-five s e b) = number-rule (b .refuses)
+  head-breaks (of-six s b) = number-rule (b .refuses)
+
+  read-rule : {room ratioRoom : ℕ} {g : Got Net} → ReadRule bytes room ratioRoom g → ListedGot g
+  read-rule (head-ten-eleven b) = head-breaks b
   read-rule (one-to-four h r) = fault-listed (head-range r)
   read-rule (eight h r l) = omega arith
-  read-rule (segment-ten-eleven h r l s m b) = number-rule (b .refuses)
-  read-rule (five-to-seven h r l s m w q) = fault-listed (segment-range q)
-  read-rule (twelve h r l s m) = omega arith
-  read-rule (good h r l s m) = tt
+  read-rule (post-ten-eleven h e s l ne b) = number-rule (b .refuses)
+  read-rule (three-of-post h e s l ne w q) = fault-listed (ratio-range q)
+  read-rule (segment-ten-eleven h o s l b) = number-rule (b .refuses)
+  read-rule (five-to-seven h o s l w q) = fault-listed (segment-range q)
+  read-rule (twelve h o s l) = omega arith
+  read-rule (good h o s l) = tt
 
   read-listed : Bytes bytes → ListedGot (recordRead bytes)
   unfolding recordRead
-  read-listed all = read-rule (read-answers bytes all mostSegments)
+  read-listed all = read-rule (read-answers bytes all mostSegments mostPosts)
 
 -- THE ANSWERS
 module _ (bytes : List ℕ) (all : Bytes bytes) {r : Refusal} where
@@ -120,7 +130,7 @@ module _ (bytes : List ℕ) (all : Bytes bytes) {r : Refusal} where
       by n h m (some q) e = cc
 
       go : (g : Got Net) → ListedGot g → planOf g lent ≡ Unplanned r → InTable (r .number)
-      go (got n next) h e = build-refusal n (length (n .segments)) lent (by n (n .head) (length (n .segments)) (buildRefusal every n (length (n .segments)) lent) e)
+      go (got n next) h e = build-refusal n (length (n .segments)) mostPosts lent (by n (n .head) (length (n .segments)) (buildRefusal every n (length (n .segments)) mostPosts lent) e)
       go (refused q) h e = let z : q ≡ r = cc in rw (← z) h
 
   pub rewrite-listed : (room : ℕ) → rewriteOf (recordRead bytes) room ≡ Unwritten r → InTable (r .number)
@@ -132,7 +142,7 @@ module _ (bytes : List ℕ) (all : Bytes bytes) {r : Refusal} where
       by (some q) size e = cc
 
       go : (g : Got Net) → ListedGot g → rewriteOf g room ≡ Unwritten r → InTable (r .number)
-      go (got n next) h e = write-refusal n (length (n .segments)) room (by (writeRefusal n (length (n .segments)) room) (length (netWritten n)) e)
+      go (got n next) h e = write-refusal n (length (n .segments)) mostPosts room (by (writeRefusal n (length (n .segments)) mostPosts room) (length (netWritten n)) e)
       go (refused q) h e = let z : q ≡ r = cc in rw (← z) h
 
   pub margin-listed : (t : Tree) (post : ℕ) → marginRead bytes t post ≡ Unmeasured r → InTable (r .number)
@@ -144,7 +154,7 @@ module _ (bytes : List ℕ) (all : Bytes bytes) {r : Refusal} where
       by n (some q) e = cc
 
       go : (g : Got Net) → ListedGot g → marginAnswerOf (marginSaid g t post) ≡ Unmeasured r → InTable (r .number)
-      go (got n next) h e = margin-refusal n (length (n .segments)) post (by n (marginRefusal every n (length (n .segments)) post) e)
+      go (got n next) h e = margin-refusal n (length (n .segments)) mostPosts post (by n (marginRefusal every n (length (n .segments)) mostPosts post) e)
       go (refused q) h e = let z : q ≡ r = cc in rw (← z) h
 
 -- A DRAWN RUN

@@ -1,6 +1,7 @@
-// The library for C and Rust: functions on numbers and lent lists, each list a pointer and a length. A refusal is
-// number × 2^32 + place. After one nothing that is lent is changed, and no function asks anything of what is lent. Thin
-// over `on_records` and `drawn`, whose answers `c_numbers` puts into numbers.
+// The library for C and Rust: functions on numbers and lent lists, each list a pointer and a length. Records are of
+// either form. A refusal is number × 2^32 + place; the place of 3 is 0 for the house ratio, and the post for a post's
+// own. After one nothing that is lent is changed, and no function asks anything of what is lent. Thin over `on_records`
+// and `drawn`, whose answers `c_numbers` puts into numbers.
 use c_numbers::mark;
 use c_numbers::pack;
 use c_numbers::put_front;
@@ -34,7 +35,7 @@ pub extern "C" fn drover_check(bytes: &[u8]) -> u64
 }
 
 // PLAN, for every input: reads the record, builds its trees into the three lent lists and puts the twelve numbers of
-// its plan at the front of the summary. 0, or the refusal.
+// its plan, among them the house ratio in both forms, at the front of the summary. 0, or the refusal.
 #[no_mangle]
 pub extern "C" fn drover_plan(
     bytes: &[u8],
@@ -78,8 +79,8 @@ pub extern "C" fn drover_rewrite(bytes: &[u8], room: &mut [u8]) -> u64
     }
 }
 
-// MARGIN, for every input: reads the record and puts the margin of a post, in the tree that the number names, into the
-// first entry of the list. 0, or the refusal.
+// MARGIN, for every input: reads the record and puts the margin of a post, in the tree that the number names and by the
+// post's own ratio in the second form, into the first entry of the list. 0, or the refusal.
 #[no_mangle]
 pub extern "C" fn drover_margin(bytes: &[u8], tree: u32, post: u32, out: &mut [i64]) -> u64
     ensures measured { λ r. ⌜ MarginLeaves (now (bytes .entry)) tree post (now (out .entry)) r (now (out .exit)) ⌝ }

@@ -3,7 +3,7 @@ use mathlib.Core.Path.{_≡_, refl, ap, _∙_}
 use mathlib.Core.List.{List}
 use mathlib.Core.Option.{Option, none, some}
 use lib.ListN.{length}
-use Rattle.net.specs.Net.{every}
+use Rattle.net.specs.Net.{Ratio, every, netWith}
 use Rattle.net.specs.Refusals.{first, netLines, checkedOf, saysOf, checkOf}
 use Rattle.net.specs.declared.Segment.{Segment}
 use Rattle.net.specs.declared.Head.{Head}
@@ -15,6 +15,6 @@ pub says-checked : (r : Option Refusal) → saysOf (checkedOf r) ≡ r
 says-checked none = refl
 says-checked (some r) = refl
 
-pub check-says : (h : Head) (segs : List Segment) {x : Checked} → x ≡ checkOf h segs → saysOf x ≡ first (netLines every (length segs) (record { head = h; segments = segs }))
+pub check-says : (h : Head) (ratios : List Ratio) (segs : List Segment) {x : Checked} → x ≡ checkOf h ratios segs → saysOf x ≡ first (netLines every (length segs) (netWith h ratios segs))
 unfolding checkOf
-check-says h segs e = ap saysOf e ∙ says-checked _
+check-says h ratios segs e = ap saysOf e ∙ says-checked _

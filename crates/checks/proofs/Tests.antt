@@ -1,15 +1,23 @@
--- A test of the code and what it tells: of two numbers, of a number that is one of 1, 2, .., high, and of a head's rules.
+-- A test of the code and what it tells: of two numbers, of a number that is one of 1, 2, .., high, and of the rules of a head and of a ratio.
 use mathlib.Core.Path.{_≡_, refl, sym, _∙_}
 use mathlib.Core.Bool.{Bool, true, false, not, _&&_}
 use mathlib.Core.Logic.{_⊎_, inl, inr}
+use mathlib.Core.Option.{some}
 use Prim.Native.Nat.{ℕ, _≤_, _<_}
 use native.Mathlib.Omega.{arith}
 use lib.Dec.{eqb, leb, ltb}
 use borrow.Author.Tests.{eqb-true, eqb-false, leb-true, leb-false, ltb-true, ltb-false}
-use Rattle.net.specs.Net.{mostPosts, mostRatio}
-use Rattle.net.specs.Rules.{PostsSound, HeadSound}
+use Rattle.net.specs.Net.{Ratio, house, mostPosts, mostRatio}
+use Rattle.net.specs.Refusals.{first, headLines, ratioLines, checkedOf}
+use Rattle.net.specs.Rules.{PostsSound, HeadSound, RatioSound, WrongRatio, RatioRule, three, three-of}
 use Rattle.net.specs.declared.Head.{Head}
+use Rattle.net.specs.declared.Refusal.{Refusal}
+use Rattle.net.specs.declared.Checked.{Checked}
+use Rattle.net.specs.declared.Checked.the-variants.{Sound, Refused}
 use Rattle.net.proofs.Words.{not-true, not-false, and-i, and-left, and-right}
+use Rattle.net.proofs.Tables.{FirstOf}
+use Rattle.net.proofs.Faults.{head-first, ratio-rule, ratio-sound}
+use Rattle.net.proofs.Checks.{refused-by, said-refused, said-sound}
 
 -- TESTS OF THE CODE, written for acceptance: what it tells that one fails, and that it passes
 pub not-below : (x y : ℕ) → not (ltb x y) ≡ true → y ≤ x
@@ -43,19 +51,29 @@ module _ (x high : ℕ) {r : Bool} (e : r ≡ (leb 1 x && leb x high)) where
   pub inside : not r ≡ false → (1 ≤ x) × (x ≤ high)
   inside f = let k : (leb 1 x && leb x high) ≡ true = sym e ∙ not-false r f in (leb-true 1 x (and-left (leb 1 x) (leb x high) k), leb-true x high (and-right (leb 1 x) (leb x high) k))
 
--- the rules of the head from the code's tests
-module _ (h : Head) {r : Bool} (e : r ≡ (leb 1 (h .posts) && leb (h .posts) mostPosts)) (f : not r ≡ false) where
-  pub posts-in : PostsSound h
-  posts-in = let z = inside (h .posts) mostPosts e f in record { some-posts = z .0; few-posts = z .1 }
+-- THE RULES of the head and of a ratio, from the code's tests
+pub posts-in : (h : Head) {r : Bool} → r ≡ (leb 1 (h .posts) && leb (h .posts) mostPosts) → not r ≡ false → PostsSound h
+posts-in h e f = let z = inside (h .posts) mostPosts e f in record { some-posts = z .0; few-posts = z .1 }
 
-  pub head-in : not (ltb (h .source) (h .posts)) ≡ false → not (leb (h .p) mostRatio) ≡ false → {s : Bool} → s ≡ (leb 1 (h .q) && leb (h .q) mostRatio) → not s ≡ false → HeadSound h
-  head-in k l g y =
-      let z = inside (h .q) mostRatio g y in
-      record { posts-sound = posts-in; source-in = is-below (h .source) (h .posts) k; some-q = z .0; small-p = is-at-most (h .p) mostRatio l; small-q = z .1 }
-
-pub ratio-out : (h : Head) {r : Bool} → r ≡ (leb 1 (h .q) && leb (h .q) mostRatio) → not r ≡ true → (h .q ≡ 0) ⊎ ((mostRatio < h .p) ⊎ (mostRatio < h .q))
-ratio-out h e f = go (outside (h .q) mostRatio e f)
+pub ratio-out : (p q : ℕ) {r : Bool} → r ≡ (leb 1 q && leb q mostRatio) → not r ≡ true → WrongRatio p q
+ratio-out p q e f = go (outside q mostRatio e f)
   where
-    go : (h .q ≡ 0) ⊎ (mostRatio < h .q) → (h .q ≡ 0) ⊎ ((mostRatio < h .p) ⊎ (mostRatio < h .q))
-    go (inl p) = inl p
-    go (inr p) = inr (inr p)
+    go : (q ≡ 0) ⊎ (mostRatio < q) → WrongRatio p q
+    go (inl x) = inl x
+    go (inr x) = inr (inr x)
+
+pub ratio-in : (r : Ratio) → not (leb (r .p) mostRatio) ≡ false → {s : Bool} → s ≡ (leb 1 (r .q) && leb (r .q) mostRatio) → not s ≡ false → RatioSound r
+ratio-in r l g y = let z = inside (r .q) mostRatio g y in record { some-q = z .0; small-p = is-at-most (r .p) mostRatio l; small-q = z .1 }
+
+-- and of the head, by what the check of its ratio said
+module _ (h : Head) (z : PostsSound h) (k : h .source < h .posts) {v : Checked} (e : v ≡ checkedOf (first (ratioLines 0 (house h)))) where
+  pub house-refused : (m : ℕ) {r : Refusal} → v ≡ Refused r → Refused r ≡ checkedOf (first (headLines h m))
+  house-refused m f = refused-by (go (ratio-rule (house h) 0 (said-refused e f)))
+    where
+      go : {r : Refusal} → RatioRule (house h) 0 (some r) → FirstOf (headLines h m) (some r)
+      go (three-of p) = head-first h m (three z k p)
+
+  pub head-in : v ≡ Sound → HeadSound h
+  head-in f =
+      let y = ratio-sound (house h) 0 (said-sound e f) in
+      record { posts-sound = z; source-in = k; some-q = y .some-q; small-p = y .small-p; small-q = y .small-q }

@@ -1,8 +1,10 @@
-// The checks 1 to 7 of a net: of a head and a count of segments (`check_head`), of one segment (`check_segment`, and by
-// its numbers `check_numbers`), of a net in three slices (`check`). Each answers what the table of `net` gives (its
-// specs/Refusals), and asks nothing of what is lent to it. `segment_count` and `segment_at` say what three slices side
-// by side stand for. Relies on `net` alone; reading, writing, building and margin stand above it.
+// The checks 1 to 7 of a net: of a head and a count of segments (`check_head`), of a post's own ratio (`check_ratio`)
+// and of all of them in two slices (`check_own`), of one segment (`check_segment`, and by its numbers `check_numbers`),
+// of a net whose ratios stand in two slices and whose segments stand in three (`check`). Each answers what the table of
+// `net` gives (its specs/Refusals), and asks nothing of what is lent to it. `segment_count` and `segment_at` say what
+// three slices side by side stand for. Relies on `net` alone; reading, writing, building and margin stand above it.
 use net::Checked;
+use net::Form;
 use net::Head;
 use net::LONGEST;
 use net::MOST_POSTS;
@@ -13,14 +15,16 @@ use net::Segment;
 use net::plain::lesser;
 use net::plain::number_of;
 ghost use mathlib.Core.Path.{_≡_};
-ghost use Prim.Native.Nat.{_<_, _≤_, min};
-ghost use mathlib.Core.Bool.{_&&_};
-ghost use lib.Dec.{leb};
+ghost use Prim.Native.Nat.{_<_, _≤_};
+ghost use mathlib.Core.Bool.{not, _&&_};
+ghost use lib.Dec.{eqb, leb};
 ghost use lib.ListN.{length as size};
-ghost use Rattle.net.specs.Net.{segmentAt, mostSegments, every};
-ghost use Rattle.net.specs.Ready.{segmentsBy};
-ghost use Rattle.net.specs.Refusals.{first, refusal, headLines, segmentLines, allSegmentLines, checkedOf, checkOf};
+ghost use Rattle.net.specs.Net.{ratioAt, ownOf, segmentAt, mostSegments, every};
+ghost use Rattle.net.specs.Ready.{ratiosBy, segmentsBy};
+ghost use Rattle.net.specs.Refusals.{first, refusal, headLines, ratioLines, presentLines, ownLines};
+ghost use Rattle.net.specs.Refusals.{segmentLines, allSegmentLines, checkedOf, checkOf};
 ghost use Rattle.net.specs.declared.Checked.the-variants.{Refused};
+ghost use Rattle.net.specs.declared.Form.the-variants.{Second};
 
 // A refusal with its number and its place.
 fn refuse(number: u32, place: u32) -> Checked
@@ -36,6 +40,19 @@ fn within(low: u32, x: u32, high: u32) -> bool
     low <= x && x <= high
 }
 
+// 3 of a ratio p/q: of a post's own, which is the place, or of the house ratio, at place 0.
+pub fn check_ratio(p: u32, q: u32, place: u32) -> Checked
+    ensures checked { λ r. ⌜ r ≡ checkedOf (first (ratioLines place (record { p = p; q = q }))) ⌝ }
+{
+    if !(p <= MOST_RATIO) {
+        return refuse(3, place);
+    }
+    if !within(1, q, MOST_RATIO) {
+        return refuse(3, place);
+    }
+    Checked::Sound
+}
+
 // 1 to 4, for a net that claims `count` segments.
 pub fn check_head(head: Head, count: usize) -> Checked
     ensures checked { λ r. ⌜ r ≡ checkedOf (first (headLines head count)) ⌝ }
@@ -46,16 +63,57 @@ pub fn check_head(head: Head, count: usize) -> Checked
     if !(head.source < head.posts) {
         return refuse(2, 0);
     }
-    if !(head.p <= MOST_RATIO) {
-        return refuse(3, 0);
-    }
-    if !within(1, head.q, MOST_RATIO) {
-        return refuse(3, 0);
+    let says = check_ratio(head.p, head.q, 0);
+    if let Checked::Refused(r) = says {
+        return Checked::Refused(r);
     }
     if !(count <= MOST_SEGMENTS) {
         return refuse(4, 0);
     }
     Checked::Sound
+}
+
+// 3 of the own ratio of one post, which stands in two slices side by side. "the source's place in their lent list is
+// neither read nor written".
+fn check_post(source: u32, p: &[u32], q: &[u32], post: u32) -> Checked
+    requires { ⌜ (post < size (now p)) × (post < size (now q)) ⌝ }
+    ensures { λ r. ⌜ r ≡ checkedOf (first (presentLines (not (eqb post source))
+        (ratioLines post (ratioAt (ratiosBy (p .entry) (q .entry)) post)))) ⌝ }
+{
+    if post == source {
+        return Checked::Sound;
+    }
+    let v = post as usize;
+    check_ratio(p[v], q[v], post)
+}
+
+// 3 of each post but the source in turn, as far as both slices go, in a net of the second form.
+fn check_posts(head: Head, p: &[u32], q: &[u32]) -> Checked
+    requires { ⌜ head .form ≡ Second ⌝ }
+    ensures { λ r. ⌜ r ≡ checkedOf (first (ownLines head (ownOf head (ratiosBy (p .entry) (q .entry))))) ⌝ }
+{
+    let count = lesser(head.posts as usize, lesser(p.len(), q.len())) as u32;
+    let mut post = 0;
+    while post < count {
+        let says = check_post(head.source, p, q, post);
+        if let Checked::Refused(r) = says {
+            return Checked::Refused(r);
+        }
+        post += 1;
+    }
+    Checked::Sound
+}
+
+// 3 of the posts' own ratios. "The house ratio, kept and checked, rules only nets of the first form": there no own
+// ratio is read.
+pub fn check_own(head: Head, p: &[u32], q: &[u32]) -> Checked
+    ensures checked { λ r. ⌜ r ≡ checkedOf (first (ownLines head (ownOf head (ratiosBy (p .entry) (q .entry))))) ⌝ }
+{
+    let form = head.form;
+    match form {
+        Form::First => Checked::Sound,
+        Form::Second => check_posts(head, p, q),
+    }
 }
 
 // 5, 6 and 7 of one segment, whose number is the place, given by its numbers: as they are read they may be larger than
@@ -129,14 +187,19 @@ fn check_segments(posts: u32, a: &[u16], b: &[u16], length: &[u32], count: usize
     Checked::Sound
 }
 
-// 1 to 7 of a net whose segments stand in three slices.
-pub fn check(head: Head, a: &[u16], b: &[u16], length: &[u32]) -> Checked
-    ensures checked { λ r. ⌜ r ≡ checkOf head (segmentsBy (a .entry) (b .entry) (length .entry)) ⌝ }
+// 1 to 7 of a net: its posts' own ratios stand in two slices, p and q, its segments in three.
+pub fn check(head: Head, p: &[u32], q: &[u32], a: &[u16], b: &[u16], length: &[u32]) -> Checked
+    ensures checked { λ r. ⌜ r ≡ checkOf head (ratiosBy (p .entry) (q .entry))
+        (segmentsBy (a .entry) (b .entry) (length .entry)) ⌝ }
 {
     let count = segment_count(a, b, length);
-    let says = check_head(head, count);
-    match says {
-        Checked::Refused(r) => Checked::Refused(r),
-        Checked::Sound => check_segments(head.posts, a, b, length, count),
+    let of_head = check_head(head, count);
+    if let Checked::Refused(r) = of_head {
+        return Checked::Refused(r);
     }
+    let of_own = check_own(head, p, q);
+    if let Checked::Refused(r) = of_own {
+        return Checked::Refused(r);
+    }
+    check_segments(head.posts, a, b, length, count)
 }

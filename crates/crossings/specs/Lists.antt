@@ -1,19 +1,20 @@
--- A lent list of segments, of any length, and three plain lists of 2,048 places side by side. Relies on net for what a
--- segment is, how many a net has, and the refusals 1 to 7. Assumes nothing.
+-- A lent list of segments, of any length, and three plain lists of 2,048 places side by side; beside them two plain
+-- lists with the posts' own ratios. Relies on net for what a segment and a ratio are, how many segments a net has, and
+-- the refusals 1 to 7. Assumes nothing.
 use mathlib.Core.Path.{_≡_}
 use mathlib.Core.List.{List, _++_}
 use Prim.Native.Nat.{ℕ, _<_, min}
 use lib.ListN.{length, set, take, drop}
-use Rattle.net.specs.Net.{Net, mostSegments, segmentsOf}
-use Rattle.net.specs.Refusals.{first, segmentLines, checkedOf, checkOf}
+use Rattle.net.specs.Net.{Ratio, Net, mostSegments, ownOf, netWith, ratiosOf, segmentsOf}
+use Rattle.net.specs.Refusals.{Line, first, headLines, ownLines, segmentLines, checkedOf, checkOf}
 use Rattle.net.specs.declared.Segment.{Segment}
 use Rattle.net.specs.declared.Head.{Head}
 use Rattle.net.specs.declared.Checked.{Checked}
 use Rattle.net.specs.declared.Checked.the-variants.{Sound, Refused}
 
--- the net of a head and of all segments of a list
-abbrev pub netOn : Head → List Segment → Net
-netOn head l = record { head = head; segments = l }
+-- the net of a head, of the posts' own ratios in two lists and of all segments of a list
+abbrev pub netOn : Head → List ℕ → List ℕ → List Segment → Net
+netOn head p q l = netWith head (ratiosOf p q) l
 
 -- the three lists have a place for each segment that a net may have
 pub record Places (a b lengths : List ℕ) : Type 0 where
@@ -21,7 +22,11 @@ pub record Places (a b lengths : List ℕ) : Type 0 where
   pub b-places : length b ≡ mostSegments
   pub lengths-places : length lengths ≡ mostSegments
 
--- TAKING IN. A refusal stays, else the next answer is given
+-- TAKING IN. What stands before 5 to 7 of m segments: 1 to 4, then 3 of the posts' own ratios
+abbrev pub linesBefore : Head → List Ratio → ℕ → List Line
+linesBefore head ratios m = headLines head m ++ ownLines head (ownOf head ratios)
+
+-- a refusal stays, else the next answer is given
 abbrev pub after : Checked → Checked → Checked
 after Sound next = next
 after (Refused r) next = Refused r
@@ -48,8 +53,8 @@ pub record Looked (says : Checked) (posts : ℕ) (s : Segment) (i : ℕ) (a b le
 
 -- all of a list: the answer r, by 1 to 7, and where that is sound its segments stand side by side at the front of the
 -- three lists
-pub record TakenIn (head : Head) (l : List Segment) (r : Checked) (a b lengths : List ℕ) : Type 0 where
-  pub answers : r ≡ checkOf head l
+pub record TakenIn (head : Head) (p q : List ℕ) (l : List Segment) (r : Checked) (a b lengths : List ℕ) : Type 0 where
+  pub answers : r ≡ checkOf head (ratiosOf p q) l
   pub stands : r ≡ Sound → segmentsOf (take (length l) a) (take (length l) b) (take (length l) lengths) ≡ l
 
 -- PUTTING OUT. How many of the first n of k segments find a place in a list that has m

@@ -2,12 +2,14 @@
 // which the segments of a net are worked on.
 //
 // `take_in` fetches the segments of a lent list one by one, hands each to a covered check, and puts its fields side by
-// side into the three lists: its answer is 1 to 7, for a list that is too long 4. `put_out` puts the first segments of
-// three lists into the front of a lent list.
+// side into the three lists: its answer is 1 to 7, for a list that is too long 4. The posts' own ratios are lent as two
+// plain lists and stay there; their 3 is given before anything of a segment. `put_out` puts the first segments of three
+// lists into the front of a lent list.
 //
 // The contracts speak of lists (specs/Lists.antt). Relies on `net` for what a segment is and how many a net has, on
 // `checks` for 1 to 7, and on `by_hand` for the steps by which the two loops over lent structs are proved.
 use checks::check_head;
+use checks::check_own;
 use checks::check_segment;
 use checks::segment_at;
 use checks::segment_count;
@@ -16,12 +18,23 @@ use net::Head;
 use net::Segment;
 use net::plain::lesser;
 ghost use mathlib.Core.Path.{_≡_};
-ghost use Prim.Native.Nat.{min};
 ghost use lib.ListN.{length as size};
-ghost use Rattle.net.specs.Ready.{segmentsBy};
-ghost use Rattle.crossings.specs.Lists.{Places, PlaceIn, lookedAt, Looked, TakenIn, fitting, PutOut};
+ghost use Rattle.net.specs.Ready.{ratiosBy, segmentsBy};
+ghost use Rattle.net.specs.Refusals.{first, checkedOf};
+ghost use Rattle.crossings.specs.Lists.{linesBefore, Places, PlaceIn, lookedAt, Looked, TakenIn, fitting, PutOut};
 
-// How many segments are looked at: none where the head is refused.
+// What is asked before any of `count` segments is looked at: 1 to 4 of the head, then 3 of the posts' own ratios.
+fn check_before(head: Head, p: &[u32], q: &[u32], count: usize) -> Checked
+    ensures { λ r. ⌜ r ≡ checkedOf (first (linesBefore head (ratiosBy (p .entry) (q .entry)) count)) ⌝ }
+{
+    let says = check_head(head, count);
+    if let Checked::Refused(x) = says {
+        return Checked::Refused(x);
+    }
+    check_own(head, p, q)
+}
+
+// How many segments are looked at: none where the head or a post's own ratio is refused.
 fn looked_at(says: Checked, count: usize) -> usize
     ensures { λ r. ⌜ r ≡ lookedAt says count ⌝ }
 {
@@ -55,20 +68,23 @@ fn look(
     }
 }
 
-// 1 to 7 of the net of a head and a lent list, whose segments go side by side into the three lists.
+// 1 to 7 of the net of a head, the posts' own ratios p and q and a lent list, whose segments go side by side into the
+// three lists.
 pub fn take_in(
     head: Head,
+    p: &[u32],
+    q: &[u32],
     list: &[Segment],
     a: &mut [u16],
     b: &mut [u16],
     lengths: &mut [u32],
 ) -> Checked
     requires places { ⌜ Places (now a) (now b) (now lengths) ⌝ }
-    ensures taken { λ r. ⌜ TakenIn head (now (list .entry))
+    ensures taken { λ r. ⌜ TakenIn head (now (p .entry)) (now (q .entry)) (now (list .entry))
         r (now (a .exit)) (now (b .exit)) (now (lengths .exit)) ⌝ }
 {
     let m = list.len();
-    let mut says = check_head(head, m);
+    let mut says = check_before(head, p, q, m);
     let n = looked_at(says, m);
     let mut i = 0;
     while i < n {

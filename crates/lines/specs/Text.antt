@@ -54,7 +54,7 @@ refusedWord = 114 ∷ 101 ∷ 102 ∷ 117 ∷ 115 ∷ 101 ∷ 100 ∷ []
 unfoldable pub ratioText : ℕ → ℕ → List ℕ
 ratioText p q = spaced p ++ (47 ∷ []) ++ decimal q
 
--- "First line: posts, segments, source, ratio."
+-- "First line: posts, segments, source, ratio.": the house ratio, in both forms
 unfoldable pub netLine : ℕ → ℕ → ℕ → ℕ → ℕ → List ℕ
 netLine posts segments source p q = netWord ++ spaced posts ++ spaced segments ++ spaced source ++ ratioText p q
     ++ newline

@@ -19,5 +19,5 @@ margin-answer-says (Margin z) = refl
 margin-answer-says (Unmeasured r) = refl
 
 -- so what margin says is net's own answer
-pub margin-says : (n : Net) (m : ℕ) (t : Tree) (post : ℕ) {x : MarginAnswer} → x ≡ marginAnswerOf (marginOf every n m t post) → marginSaysOf x ≡ marginOf every n m t post
-margin-says n m t post e = rw e (says-margin-answer (marginOf every n m t post))
+pub margin-says : (n : Net) (m k : ℕ) (t : Tree) (post : ℕ) {x : MarginAnswer} → x ≡ marginAnswerOf (marginOf every n m k t post) → marginSaysOf x ≡ marginOf every n m k t post
+margin-says n m k t post e = rw e (says-margin-answer (marginOf every n m k t post))

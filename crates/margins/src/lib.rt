@@ -1,9 +1,11 @@
-// The margin of a post in a tree of a net: "(p + q) × D minus q × path in the tree".
-// Over the head by value and the segments as three slices side by side. Relies on `checks`, `trees` and `hanging`.
+// The margin of a post in a tree of a net: "(p + q) × D minus q × path in the tree", at the post's own ratio.
+// Over the head by value, the posts' own ratios as two slices side by side and the segments as three. Relies on
+// `checks`, `trees` and `hanging`.
 use net::Checked;
 use net::Head;
 use net::Refusal;
 use net::Tree;
+use net::plain::lesser;
 use net::plain::wide;
 use trees::Prepared;
 ghost use mathlib.Core.Path.{_≡_};
@@ -13,10 +15,11 @@ ghost use lib.ListN.{length as size};
 ghost use Rattle.net.specs.Net.{every, mostRatio};
 ghost use Rattle.net.specs.Trees.{noneYet, pathIn, marginBy};
 ghost use Rattle.net.specs.Refusals.{refusal};
-ghost use Rattle.net.specs.Building.{treeOf, marginIn, marginOf};
-ghost use Rattle.net.specs.Ready.{netBy, countBy, Ready};
+ghost use Rattle.net.specs.Building.{marginIn, marginOf};
+ghost use Rattle.net.specs.Ready.{segmentsBy, netBy, countBy, ratioCountBy, Ready};
+ghost use Rattle.trees.specs.Ratios.{Plain};
 ghost use Rattle.trees.specs.Worked.{Worked, ThreeTrees};
-ghost use Rattle.margins.specs.Answers.{marginAnswerOf};
+ghost use Rattle.margins.specs.Answers.{marginAnswerOf, named};
 ghost use Rattle.margins.specs.declared.MarginAnswer.the-variants.{Refused as Unmeasured};
 
 // A margin, or a refusal.
@@ -53,15 +56,15 @@ fn margin_by(p: u32, q: u32, dist: u64, path: u32) -> i64
 
 // The length of a post's path in a tree of a net.
 fn path_by(head: Head, a: &[u16], b: &[u16], lengths: &[u32], tree: &[u16], post: usize) -> u32
-    requires { ⌜ Ready head (now a) (now b) (now lengths) × (size (now tree) ≡ head .posts) ⌝ }
-    ensures { λ r. ⌜ r ≡ pathIn (netBy head (a .entry) (b .entry) (lengths .entry) .segments) (head .posts)
+    requires { ⌜ Plain head (now a) (now b) (now lengths) × (size (now tree) ≡ head .posts) ⌝ }
+    ensures { λ r. ⌜ r ≡ pathIn (segmentsBy (a .entry) (b .entry) (lengths .entry)) (head .posts)
         (now (tree .entry)) post ⌝ }
 {
     let posts = trees::index_of(head.posts);
     hanging::path_of(posts, a, b, lengths, tree, post)
 }
 
-// The length of a post's path in the tree that is named.
+// The length of a post's path in the one of three trees that is named.
 fn path_in(
     head: Head,
     a: &[u16],
@@ -73,12 +76,11 @@ fn path_in(
     tree: Tree,
     post: usize,
 ) -> u32
-    requires { ⌜ Ready head (now a) (now b) (now lengths) ⌝ }
-    requires { ⌜ ThreeTrees (netBy head a b lengths) (now light) (now short) (now third) ⌝ }
+    requires { ⌜ Plain head (now a) (now b) (now lengths) ⌝ }
     requires { ⌜ (size (now light) ≡ head .posts) × (size (now short) ≡ head .posts)
         × (size (now third) ≡ head .posts) ⌝ }
-    ensures { λ r. ⌜ r ≡ pathIn (netBy head (a .entry) (b .entry) (lengths .entry) .segments) (head .posts)
-        (treeOf every (netBy head (a .entry) (b .entry) (lengths .entry)) tree) post ⌝ }
+    ensures { λ r. ⌜ r ≡ pathIn (segmentsBy (a .entry) (b .entry) (lengths .entry)) (head .posts)
+        (named tree (now (light .entry)) (now (short .entry)) (now (third .entry))) post ⌝ }
 {
     match tree {
         Tree::Lightest => path_by(head, a, b, lengths, light, post),
@@ -87,9 +89,11 @@ fn path_in(
     }
 }
 
-// The margin of a post of a net of which nothing is refused.
+// The margin of a post of a net of which nothing is refused, at the post's own ratio.
 fn margin_joined(
     head: Head,
+    p: &[u32],
+    q: &[u32],
     a: &[u16],
     b: &[u16],
     lengths: &[u32],
@@ -100,16 +104,19 @@ fn margin_joined(
     tree: Tree,
     post: usize,
 ) -> i64
-    requires { ⌜ Ready head (now a) (now b) (now lengths) ⌝ }
-    requires { ⌜ Worked (netBy head a b lengths) (now dist) (now short)
-        × ThreeTrees (netBy head a b lengths) (now light) (now short) (now third) ⌝ }
+    requires { ⌜ Ready head (now p) (now q) (now a) (now b) (now lengths) × (head .posts ≤ ratioCountBy p q) ⌝ }
+    requires { ⌜ Worked (netBy head p q a b lengths) (now dist) (now short)
+        × ThreeTrees (netBy head p q a b lengths) (now light) (now short) (now third) ⌝ }
     requires { ⌜ (size (now light) ≡ head .posts) × (size (now short) ≡ head .posts)
         × (size (now third) ≡ head .posts) ⌝ }
     requires { ⌜ post < size (now dist) ⌝ }
-    ensures { λ r. ⌜ r ≡ marginIn every (netBy head (a .entry) (b .entry) (lengths .entry)) tree post ⌝ }
+    ensures { λ r. ⌜ r ≡ marginIn every
+        (netBy head (p .entry) (q .entry) (a .entry) (b .entry) (lengths .entry)) tree post ⌝ }
 {
     let path = path_in(head, a, b, lengths, light, short, third, tree, post);
-    margin_by(head.p, head.q, dist[post], path)
+    let own_p = trees::number_for(head, head.p, p, post);
+    let own_q = trees::number_for(head, head.q, q, post);
+    margin_by(own_p, own_q, dist[post], path)
 }
 
 // A refusal of a margin, with its number and its place.
@@ -119,9 +126,11 @@ fn refuse_margin(number: u32, place: u32) -> MarginAnswer
     MarginAnswer::Refused(Refusal { number, place })
 }
 
-// A net that nothing from 1 to 7 refuses: 9, then 19, or the margin. The four slices are lent to work in.
+// A net that nothing from 1 to 8 refuses: 9, then 19, or the margin. The four slices are lent to work in.
 fn margin_in(
     head: Head,
+    p: &[u32],
+    q: &[u32],
     a: &[u16],
     b: &[u16],
     lengths: &[u32],
@@ -132,13 +141,14 @@ fn margin_in(
     tree: Tree,
     post: u32,
 ) -> MarginAnswer
-    requires { ⌜ Ready head (now a) (now b) (now lengths) ⌝ }
+    requires { ⌜ Ready head (now p) (now q) (now a) (now b) (now lengths) × (head .posts ≤ ratioCountBy p q) ⌝ }
     requires { ⌜ (size (now dist) ≡ head .posts) × (size (now light) ≡ head .posts)
         × (size (now short) ≡ head .posts) × (size (now third) ≡ head .posts) ⌝ }
-    ensures { λ r. ⌜ r ≡ marginAnswerOf (marginOf every (netBy head (a .entry) (b .entry) (lengths .entry))
-        (countBy (a .entry) (b .entry) (lengths .entry)) tree post) ⌝ }
+    ensures { λ r. ⌜ r ≡ marginAnswerOf (marginOf every
+        (netBy head (p .entry) (q .entry) (a .entry) (b .entry) (lengths .entry))
+        (countBy (a .entry) (b .entry) (lengths .entry)) (ratioCountBy (p .entry) (q .entry)) tree post) ⌝ }
 {
-    let says = trees::all_trees(head, a, b, lengths, dist, light, short, third);
+    let says = trees::all_trees(head, p, q, a, b, lengths, dist, light, short, third);
     if let Prepared::Apart(v) = says {
         return refuse_margin(9, v);
     }
@@ -146,29 +156,51 @@ fn margin_in(
         return refuse_margin(19, 0);
     }
     let v = trees::index_of(post);
-    MarginAnswer::Margin(margin_joined(head, a, b, lengths, dist, light, short, third, tree, v))
+    MarginAnswer::Margin(margin_joined(
+        head,
+        p,
+        q,
+        a,
+        b,
+        lengths,
+        dist,
+        light,
+        short,
+        third,
+        tree,
+        v,
+    ))
 }
 
-// MARGIN of a net that nothing from 1 to 7 refuses: 9, then 19, or the margin, with lists of its own to work in.
+// MARGIN of a net that nothing from 1 to 7 refuses: 8 of the lists of ratios, whatever the form, then 9, then 19, or
+// the margin, with lists of its own to work in.
 pub fn margin_sound(
     head: Head,
+    p: &[u32],
+    q: &[u32],
     a: &[u16],
     b: &[u16],
     lengths: &[u32],
     tree: Tree,
     post: u32,
 ) -> MarginAnswer
-    requires { ⌜ Ready head (now a) (now b) (now lengths) ⌝ }
-    ensures answered { λ r. ⌜ r ≡ marginAnswerOf (marginOf every (netBy head (a .entry) (b .entry) (lengths .entry))
-        (countBy (a .entry) (b .entry) (lengths .entry)) tree post) ⌝ }
+    requires { ⌜ Ready head (now p) (now q) (now a) (now b) (now lengths) ⌝ }
+    ensures answered { λ r. ⌜ r ≡ marginAnswerOf (marginOf every
+        (netBy head (p .entry) (q .entry) (a .entry) (b .entry) (lengths .entry))
+        (countBy (a .entry) (b .entry) (lengths .entry)) (ratioCountBy (p .entry) (q .entry)) tree post) ⌝ }
 {
     let posts = trees::index_of(head.posts);
+    if lesser(p.len(), q.len()) < posts {
+        return refuse_margin(8, 0);
+    }
     let mut dist = [0u64; trees::MOST_POSTS];
     let mut light = [0u16; trees::MOST_POSTS];
     let mut short = [0u16; trees::MOST_POSTS];
     let mut third = [0u16; trees::MOST_POSTS];
     margin_in(
         head,
+        p,
+        q,
         a,
         b,
         lengths,
@@ -181,23 +213,28 @@ pub fn margin_sound(
     )
 }
 
-// MARGIN, for every input: "1 to 7, then 9, then 19." The tree is worked out afresh, and no list is lent. The net's
-// segments are as many as the shortest of the three slices has places.
+// MARGIN, for every input: "1 to 7, then 9, then 19", with the posts' 3 after the head's 4, and 8 of the lists of
+// ratios after 7. The tree is worked out afresh, and no tree list is lent. The net's segments are as many as the
+// shortest of their three slices has places; the posts' own ratios, p and q, are read as far as both go, and only in
+// the second form.
 pub fn margin(
     head: Head,
+    p: &[u32],
+    q: &[u32],
     a: &[u16],
     b: &[u16],
     lengths: &[u32],
     tree: Tree,
     post: u32,
 ) -> MarginAnswer
-    ensures answered { λ r. ⌜ r ≡ marginAnswerOf (marginOf every (netBy head (a .entry) (b .entry) (lengths .entry))
-        (countBy (a .entry) (b .entry) (lengths .entry)) tree post) ⌝ }
+    ensures answered { λ r. ⌜ r ≡ marginAnswerOf (marginOf every
+        (netBy head (p .entry) (q .entry) (a .entry) (b .entry) (lengths .entry))
+        (countBy (a .entry) (b .entry) (lengths .entry)) (ratioCountBy (p .entry) (q .entry)) tree post) ⌝ }
 {
-    let says = checks::check(head, a, b, lengths);
+    let says = checks::check(head, p, q, a, b, lengths);
     if let Checked::Refused(r) = says {
         return MarginAnswer::Refused(r);
     }
     let m = checks::segment_count(a, b, lengths);
-    margin_sound(head, &a[..m], &b[..m], &lengths[..m], tree, post)
+    margin_sound(head, p, q, &a[..m], &b[..m], &lengths[..m], tree, post)
 }

@@ -7,7 +7,7 @@ use mathlib.Core.Option.{Option, none, some}
 use Prim.Native.Nat.{ℕ, _≤_}
 use native.Mathlib.Omega.{arith}
 use lib.ListN.{length}
-use Rattle.net.specs.Net.{Net, every, mostSegments}
+use Rattle.net.specs.Net.{Ratio, every, mostSegments, netWith}
 use Rattle.net.specs.Refusals.{Line, first, headLines, checkedOf, checkOf}
 use Rattle.net.specs.Rules.{NetSound, Faulty}
 use Rattle.net.proofs.Tables.{FirstOf, first-only, first-is}
@@ -45,14 +45,15 @@ pub few-segments : (h : Head) (count : ℕ) {v : Checked} → v ≡ checkedOf (f
 few-segments h count e g = (head-sound h count (said-sound e g)) .1
 
 -- BY THE RULES: a net is sound for `check` exactly where none of 1 to 7 holds
-abbrev net : Head → List Segment → Net
-net h segs = record { head = h; segments = segs }
-
-pub check-sound : (h : Head) (segs : List Segment) → (checkOf h segs ≡ Sound) ↔ NetSound every (length segs) (net h segs)
+pub check-sound : (h : Head) (ratios : List Ratio) (segs : List Segment) → (checkOf h ratios segs ≡ Sound) ↔ NetSound every (length segs) (netWith h ratios segs)
 unfolding checkOf
-check-sound h segs = (λ e. net-sound every (length segs) (net h segs) .0 (sym (first-only (said-sound refl e))), λ z. sym (sound-by (sound-first every (length segs) (net h segs) z)))
+check-sound h ratios segs =
+    let n = netWith h ratios segs in
+    (λ e. net-sound every (length segs) n .0 (sym (first-only (said-sound refl e))), λ z. sym (sound-by (sound-first every (length segs) n z)))
 
 -- and it is refused exactly as the rules say
-pub check-faulty : (h : Head) (segs : List Segment) {r : Refusal} → (checkOf h segs ≡ Refused r) ↔ Faulty every (length segs) (net h segs) r
+pub check-faulty : (h : Head) (ratios : List Ratio) (segs : List Segment) {r : Refusal} → (checkOf h ratios segs ≡ Refused r) ↔ Faulty every (length segs) (netWith h ratios segs) r
 unfolding checkOf
-check-faulty h segs = (λ e. net-faulty every (length segs) (net h segs) .0 (sym (first-only (said-refused refl e))), λ f. sym (refused-by (faulty-first every (length segs) (net h segs) f)))
+check-faulty h ratios segs =
+    let n = netWith h ratios segs in
+    (λ e. net-faulty every (length segs) n .0 (sym (first-only (said-refused refl e))), λ f. sym (refused-by (faulty-first every (length segs) n f)))

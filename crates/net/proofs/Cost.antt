@@ -38,11 +38,6 @@ way-append segs [] b = omega arith
 way-append segs (entering v ∷ a) b = way-append segs a b
 way-append segs (trying u i v ∷ a) b = omega (arith, way-append segs a b)
 
--- what holds of every number holds of every number of a list
-pub all-of : (Q : ℕ → Type 0) → ((v : ℕ) → Q v) → (l : List ℕ) → AllOf Q l
-all-of Q f [] = tt
-all-of Q f (v ∷ vs) = (f v, all-of Q f vs)
-
 module _ (g : Given) (ok : ℕ → Bool) (s : ℕ) (owed : Owed g ok s) where
   module _ (p q : ℕ) where
     -- p/q is no larger than the ratio of any post laid

@@ -1,18 +1,21 @@
 -- 1 to 7 of a net: the table of specs/Refusals gives them exactly where the rules of specs/Rules do (`net-faulty`, `net-sound`).
--- So do the lines of a head and of one segment (`head-first`, `head-rule`, `segment-first`, `segment-rule`). Rests on reading a table from the top (Tables).
+-- So do the lines of a head, of a post's own ratio and of one segment (`head-first`, `head-rule`, `ratio-first`, `ratio-rule`, `segment-first`, `segment-rule`).
+-- Rests on reading a table from the top (Tables).
 use mathlib.Core.Path.{_≡_, refl, sym, _∙_}
-use mathlib.Core.Bool.{Bool, true, false, _||_}
+use mathlib.Core.Bool.{Bool, true, false, not, _||_}
 use mathlib.Core.Logic.{_⊎_, _↔_}
-use mathlib.Core.List.{List}
+use mathlib.Core.List.{List, _++_}
 use mathlib.Core.Option.{Option, none, some}
 use Prim.Native.Nat.{ℕ, _≤_, _<_}
 use native.Mathlib.Omega.{arith}
 use lib.ListN.{length}
 use lib.Dec.{eqb, ltb, leb}
-use Rattle.net.specs.Net.{Net, mostPosts, mostSegments, longest, mostRatio, segmentAt}
-use Rattle.net.specs.Refusals.{refusal, Line, first, headLines, segmentLines, presentLines, allSegmentLines, netLines}
-use Rattle.net.specs.Rules.{PostsSound, HeadSound, EndsSound, SegmentSound, HeadRule, one, two, three, four, SegmentRule, five, six, seven, SoundTo, NetSound, Faulty}
+use borrow.Author.Tests.{eqb-false, ne-eqb}
+use Rattle.net.specs.Net.{Ratio, Net, mostPosts, mostSegments, longest, mostRatio, ratioAt, segmentAt}
+use Rattle.net.specs.Refusals.{Line, first, wrongRatio, headLines, ratioLines, ownLines, segmentLines, presentLines, allSegmentLines, netLines}
+use Rattle.net.specs.Rules.{PostsSound, HeadSound, RatioSound, EndsSound, SegmentSound, WrongRatio, HeadRule, one, two, three, four, RatioRule, three-of, SegmentRule, five, six, seven, RatiosSound, SoundTo, NetSound, Faulty}
 use Rattle.net.specs.Rules as R
+use Rattle.net.proofs.Words.{not-true}
 use Rattle.net.proofs.Tables.{FirstOf, end, here, below, first-only, first-is, InEither, in-first, in-second, in-either, some-append, none-append, LowestOf, nowhere, lowest-at, lowest-of, none-each, some-each, Tells, pass, fail, at-least, above, same, is-zero, one-of-two, one-of-three}
 use Rattle.net.specs.declared.Segment.{Segment}
 use Rattle.net.specs.declared.Head.{Head}
@@ -26,8 +29,9 @@ module _ (h : Head) where
   tells-2 : Tells (h .posts ≤ h .source) (h .source < h .posts) (leb (h .posts) (h .source))
   tells-2 = at-least (h .posts) (h .source)
 
-  tells-3 : Tells ((h .q ≡ 0) ⊎ ((mostRatio < h .p) ⊎ (mostRatio < h .q))) ((1 ≤ h .q) × (h .p ≤ mostRatio) × (h .q ≤ mostRatio)) (eqb (h .q) 0 || ltb mostRatio (h .p) || ltb mostRatio (h .q))
-  tells-3 = one-of-three (is-zero (h .q)) (above mostRatio (h .p)) (above mostRatio (h .q))
+-- of the house ratio and of a post's own
+tells-3 : (p q : ℕ) → Tells (WrongRatio p q) ((1 ≤ q) × (p ≤ mostRatio) × (q ≤ mostRatio)) (wrongRatio p q)
+tells-3 p q = one-of-three (is-zero q) (above mostRatio p) (above mostRatio q)
 
 tells-4 : (m : ℕ) → Tells (mostSegments < m) (m ≤ mostSegments) (ltb mostSegments m)
 tells-4 m = above mostSegments m
@@ -49,13 +53,13 @@ module _ (h : Head) where
   posts-test : PostsSound h → (eqb (h .posts) 0 || ltb mostPosts (h .posts)) ≡ false
   posts-test z = fail (tells-1 h) (z .some-posts, z .few-posts)
 
-  ratio-test : HeadSound h → (eqb (h .q) 0 || ltb mostRatio (h .p) || ltb mostRatio (h .q)) ≡ false
-  ratio-test z = fail (tells-3 h) (z .some-q, z .small-p, z .small-q)
+  ratio-test : HeadSound h → wrongRatio (h .p) (h .q) ≡ false
+  ratio-test z = fail (tells-3 (h .p) (h .q)) (z .some-q, z .small-p, z .small-q)
 
   sound-by : (eqb (h .posts) 0 || ltb mostPosts (h .posts)) ≡ false → leb (h .posts) (h .source) ≡ false
-      → (eqb (h .q) 0 || ltb mostRatio (h .p) || ltb mostRatio (h .q)) ≡ false → HeadSound h
+      → wrongRatio (h .p) (h .q) ≡ false → HeadSound h
   sound-by p q s =
-      let y = (tells-3 h) .fails s in
+      let y = (tells-3 (h .p) (h .q)) .fails s in
       record { posts-sound = posts-sound ((tells-1 h) .fails p); source-in = (tells-2 h) .fails q; some-q = y .0; small-p = y .1; small-q = y .2 }
 
 module _ (h : Head) (m : ℕ) where
@@ -64,7 +68,7 @@ module _ (h : Head) (m : ℕ) where
   unfolding headLines
   head-first (one p) = here (pass (tells-1 h) p)
   head-first (two z p) = below (posts-test h z) (here (pass (tells-2 h) p))
-  head-first (three z k p) = below (posts-test h z) (below (fail (tells-2 h) k) (here (pass (tells-3 h) p)))
+  head-first (three z k p) = below (posts-test h z) (below (fail (tells-2 h) k) (here (pass (tells-3 (h .p) (h .q)) p)))
   head-first (four z p) = below (posts-test h (z .posts-sound)) (below (fail (tells-2 h) (z .source-in)) (below (ratio-test h z) (here (pass (tells-4 m) p))))
   head-first (R.HeadRule.nothing z k) =
       below (posts-test h (z .posts-sound)) (below (fail (tells-2 h) (z .source-in)) (below (ratio-test h z) (below (fail (tells-4 m) k) end)))
@@ -74,7 +78,7 @@ module _ (h : Head) (m : ℕ) where
   unfolding headLines
   head-rule (here p) = one ((tells-1 h) .passes p)
   head-rule (below p (here q)) = two (posts-sound h ((tells-1 h) .fails p)) ((tells-2 h) .passes q)
-  head-rule (below p (below q (here s))) = three (posts-sound h ((tells-1 h) .fails p)) ((tells-2 h) .fails q) ((tells-3 h) .passes s)
+  head-rule (below p (below q (here s))) = three (posts-sound h ((tells-1 h) .fails p)) ((tells-2 h) .fails q) ((tells-3 (h .p) (h .q)) .passes s)
   head-rule (below p (below q (below s (here t)))) = four (sound-by h p q s) ((tells-4 m) .passes t)
   head-rule (below p (below q (below s (below t end)))) = R.HeadRule.nothing (sound-by h p q s) ((tells-4 m) .fails t)
 
@@ -83,6 +87,23 @@ module _ (h : Head) (m : ℕ) where
     where
       go : HeadRule h m none → HeadSound h × (m ≤ mostSegments)
       go (R.HeadRule.nothing z k) = (z, k)
+
+module _ (r : Ratio) (v : ℕ) where
+  pub ratio-first : {o : Option Refusal} → RatioRule r v o → FirstOf (ratioLines v r) o
+  unfolding ratioLines
+  ratio-first (three-of p) = here (pass (tells-3 (r .p) (r .q)) p)
+  ratio-first (R.RatioRule.nothing z) = below (fail (tells-3 (r .p) (r .q)) (z .some-q, z .small-p, z .small-q)) end
+
+  pub ratio-rule : {o : Option Refusal} → FirstOf (ratioLines v r) o → RatioRule r v o
+  unfolding ratioLines
+  ratio-rule (here p) = three-of ((tells-3 (r .p) (r .q)) .passes p)
+  ratio-rule (below p end) = let y = (tells-3 (r .p) (r .q)) .fails p in R.RatioRule.nothing (record { some-q = y .0; small-p = y .1; small-q = y .2 })
+
+  pub ratio-sound : FirstOf (ratioLines v r) none → RatioSound r
+  ratio-sound f = go (ratio-rule f)
+    where
+      go : RatioRule r v none → RatioSound r
+      go (R.RatioRule.nothing z) = z
 
 module _ (posts : ℕ) (s : Segment) where
   ends-sound : (s .a < posts) × (s .b < posts) → EndsSound posts s
@@ -122,12 +143,15 @@ head-range (two z p) = omega arith
 head-range (three z k p) = omega arith
 head-range (four z p) = omega arith
 
+pub ratio-range : {x : Ratio} {v : ℕ} {r : Refusal} → RatioRule x v (some r) → (1 ≤ r .number) × (r .number ≤ 7)
+ratio-range (three-of p) = omega arith
+
 pub segment-range : {posts : ℕ} {s : Segment} {i : ℕ} {r : Refusal} → SegmentRule posts s i (some r) → (1 ≤ r .number) × (r .number ≤ 7)
 segment-range (five p) = omega arith
 segment-range (six e p) = omega arith
 segment-range (seven e a p) = omega arith
 
--- a segment that isn't there has no lines
+-- what isn't there has no lines
 module _ {ls : List Line} where
   present : (b : Bool) {r : Option Refusal} → b ≡ true → FirstOf ls r → FirstOf (presentLines b ls) r
   unfolding presentLines
@@ -146,18 +170,52 @@ module _ {ls : List Line} where
   unfolding presentLines
   none-present b f e = rw e at f
 
+-- 3 OF THE POSTS' OWN RATIOS
+-- the lines of post v
+abbrev ownAt : Net → ℕ → List Line
+ownAt n v = presentLines (not (eqb v (n .head .source))) (ratioLines v (ratioAt (n .own) v))
+
+module _ (n : Net) where
+  not-source : (v : ℕ) → not (eqb v (n .head .source)) ≡ true → v ≡ n .head .source → ⊥
+  not-source v e = eqb-false v (n .head .source) (not-true _ e)
+
+  other-post : (v : ℕ) → (v ≡ n .head .source → ⊥) → not (eqb v (n .head .source)) ≡ true
+  other-post v ne = rw (ne-eqb v (n .head .source) ne)
+
+  ratios-to : (k : ℕ) → ((v : ℕ) → v < k → FirstOf (ownAt n v) none) → RatiosSound n k
+  ratios-to k g v l ne = ratio-sound (ratioAt (n .own) v) v (none-present (not (eqb v (n .head .source))) (g v l) (other-post v ne))
+
+  to-ratios : (k : ℕ) → RatiosSound n k → (v : ℕ) → v < k → FirstOf (ownAt n v) none
+  to-ratios k z v l = present-none (not (eqb v (n .head .source))) (λ e. ratio-first (ratioAt (n .own) v) v (R.RatioRule.nothing (z v l (not-source v e))))
+
+  own-sound : FirstOf (ownLines (n .head) (n .own)) none → RatiosSound n (length (n .own))
+  unfolding ownLines
+  own-sound f = go (lowest-of (ownAt n) (length (n .own)) f)
+    where
+      go : LowestOf (ownAt n) (length (n .own)) none → RatiosSound n (length (n .own))
+      go (nowhere g) = ratios-to (length (n .own)) g
+
+  own-none : RatiosSound n (length (n .own)) → FirstOf (ownLines (n .head) (n .own)) none
+  unfolding ownLines
+  own-none z = none-each (ownAt n) (length (n .own)) (to-ratios (length (n .own)) z)
+
 -- 1 TO 7
 -- the lines of segment i
 abbrev linesAt : (ℕ → Bool) → Net → ℕ → List Line
 linesAt ok n i = presentLines (ok i) (segmentLines (n .head .posts) (segmentAt (n .segments) i) i)
 
+-- the lines below the head's
+abbrev restLines : (ℕ → Bool) → Net → List Line
+restLines ok n = ownLines (n .head) (n .own) ++ allSegmentLines ok (n .head .posts) (n .segments)
+
 module _ (ok : ℕ → Bool) (m : ℕ) (n : Net) where
-  sound-to : (k : ℕ) → FirstOf (headLines (n .head) m) none → ((j : ℕ) → j < k → FirstOf (linesAt ok n j) none) → SoundTo ok m n k
-  sound-to k f g =
+  sound-to : (k : ℕ) → FirstOf (headLines (n .head) m) none → RatiosSound n (length (n .own)) → ((j : ℕ) → j < k → FirstOf (linesAt ok n j) none) → SoundTo ok m n k
+  sound-to k f o g =
       let z = head-sound (n .head) m f in
       record {
         head-sound = z .0;
         few-segments = z .1;
+        ratios-sound = o;
         segments-sound = λ j l o. segment-sound (n .head .posts) (segmentAt (n .segments) j) j (none-present (ok j) (g j l) o);
       }
 
@@ -169,41 +227,64 @@ module _ (ok : ℕ → Bool) (m : ℕ) (n : Net) where
     faulty : {r : Refusal} → Faulty ok m n r → NetRule (some r)
     sound : NetSound ok m n → NetRule none
 
-  segments-rule : FirstOf (headLines (n .head) m) none → {r : Option Refusal} → LowestOf (linesAt ok n) (length (n .segments)) r → NetRule r
-  segments-rule f (nowhere g) = sound (sound-to (length (n .segments)) f g)
-  segments-rule f (lowest-at i k g h) =
+  own-rule : FirstOf (headLines (n .head) m) none → {r : Refusal} → LowestOf (ownAt n) (length (n .own)) (some r) → NetRule (some r)
+  own-rule f (lowest-at v k g h) =
+      let z = head-sound (n .head) m f in
+      let y = of-present (not (eqb v (n .head .source))) h in
+      faulty (R.Faulty.three-of-post (z .0) (z .1) (ratios-to n v g) k (not-source n v (y .0)) (ratio-rule (ratioAt (n .own) v) v (y .1)))
+
+  segments-rule : FirstOf (headLines (n .head) m) none → RatiosSound n (length (n .own)) → {r : Option Refusal} → LowestOf (linesAt ok n) (length (n .segments)) r → NetRule r
+  segments-rule f o (nowhere g) = sound (sound-to (length (n .segments)) f o g)
+  segments-rule f o (lowest-at i k g h) =
       let z = of-present (ok i) h in
-      faulty (R.Faulty.five-to-seven (sound-to i f g) k (z .0) (segment-rule (n .head .posts) (segmentAt (n .segments) i) i (z .1)))
+      faulty (R.Faulty.five-to-seven (sound-to i f o g) k (z .0) (segment-rule (n .head .posts) (segmentAt (n .segments) i) i (z .1)))
+
+  rest-rule : FirstOf (headLines (n .head) m) none → {r : Option Refusal} → InEither (ownLines (n .head) (n .own)) (allSegmentLines ok (n .head .posts) (n .segments)) r → NetRule r
+  unfolding ownLines allSegmentLines
+  rest-rule f (in-first g) = own-rule f (lowest-of (ownAt n) (length (n .own)) g)
+  rest-rule f (in-second g h) = segments-rule f (own-sound n g) (lowest-of (linesAt ok n) (length (n .segments)) h)
 
   net-rule : {r : Option Refusal} → FirstOf (netLines ok m n) r → NetRule r
-  unfolding netLines allSegmentLines
-  net-rule f = go (in-either (headLines (n .head) m) (allSegmentLines ok (n .head .posts) (n .segments)) f)
+  unfolding netLines
+  net-rule f = go (in-either (headLines (n .head) m) (restLines ok n) f)
     where
-      go : {r : Option Refusal} → InEither (headLines (n .head) m) (allSegmentLines ok (n .head .posts) (n .segments)) r → NetRule r
+      go : {r : Option Refusal} → InEither (headLines (n .head) m) (restLines ok n) r → NetRule r
       go (in-first g) = faulty (R.Faulty.one-to-four (head-rule (n .head) m g))
-      go (in-second g h) = segments-rule g (lowest-of (linesAt ok n) (length (n .segments)) h)
+      go (in-second g h) = rest-rule g (in-either (ownLines (n .head) (n .own)) (allSegmentLines ok (n .head .posts) (n .segments)) h)
 
   -- from the rules to the table
   in-head : {r : Refusal} → FirstOf (headLines (n .head) m) (some r) → FirstOf (netLines ok m n) (some r)
   unfolding netLines
-  in-head f = some-append (allSegmentLines ok (n .head .posts) (n .segments)) f
+  in-head f = some-append (restLines ok n) f
+
+  below-head : HeadSound (n .head) → m ≤ mostSegments → {r : Option Refusal} → FirstOf (restLines ok n) r → FirstOf (netLines ok m n) r
+  unfolding netLines
+  below-head z k f = none-append (head-first (n .head) m (R.HeadRule.nothing z k)) f
+
+  in-own : {v : ℕ} {r : Refusal} → RatiosSound n v → v < length (n .own) → (v ≡ n .head .source → ⊥) → FirstOf (ratioLines v (ratioAt (n .own) v)) (some r) → FirstOf (restLines ok n) (some r)
+  unfolding ownLines
+  in-own {v} z k ne f =
+      some-append (allSegmentLines ok (n .head .posts) (n .segments))
+      (some-each (ownAt n) (length (n .own)) k (to-ratios n v z) (present (not (eqb v (n .head .source))) (other-post n v ne) f))
 
   in-segment : {i : ℕ} {r : Refusal} → SoundTo ok m n i → i < length (n .segments) → ok i ≡ true
-      → FirstOf (segmentLines (n .head .posts) (segmentAt (n .segments) i) i) (some r) → FirstOf (netLines ok m n) (some r)
-  unfolding netLines allSegmentLines
+      → FirstOf (segmentLines (n .head .posts) (segmentAt (n .segments) i) i) (some r) → FirstOf (restLines ok n) (some r)
+  unfolding allSegmentLines
   in-segment {i} z k o f =
-      none-append (head-first (n .head) m (R.HeadRule.nothing (z .head-sound) (z .few-segments)))
+      none-append (own-none n (z .ratios-sound))
       (some-each (linesAt ok n) (length (n .segments)) k (to-sound i z) (present (ok i) o f))
 
   pub faulty-first : {r : Refusal} → Faulty ok m n r → FirstOf (netLines ok m n) (some r)
   faulty-first (R.Faulty.one-to-four h) = in-head (head-first (n .head) m h)
-  faulty-first (R.Faulty.five-to-seven {i} z k o h) = in-segment z k o (segment-first (n .head .posts) (segmentAt (n .segments) i) i h)
+  faulty-first (R.Faulty.three-of-post {v} z l y k ne h) = below-head z l (in-own y k ne (ratio-first (ratioAt (n .own) v) v h))
+  faulty-first (R.Faulty.five-to-seven {i} z k o h) =
+      below-head (z .head-sound) (z .few-segments) (in-segment z k o (segment-first (n .head .posts) (segmentAt (n .segments) i) i h))
 
   pub sound-first : NetSound ok m n → FirstOf (netLines ok m n) none
-  unfolding netLines allSegmentLines
+  unfolding allSegmentLines
   sound-first z =
-      none-append (head-first (n .head) m (R.HeadRule.nothing (z .head-sound) (z .few-segments)))
-      (none-each (linesAt ok n) (length (n .segments)) (to-sound (length (n .segments)) z))
+      below-head (z .head-sound) (z .few-segments)
+      (none-append (own-none n (z .ratios-sound)) (none-each (linesAt ok n) (length (n .segments)) (to-sound (length (n .segments)) z)))
 
   -- the table gives r for the net alone exactly where the rules do
   pub net-faulty : {r : Refusal} → (first (netLines ok m n) ≡ some r) ↔ Faulty ok m n r
@@ -228,4 +309,5 @@ module _ (ok : ℕ → Bool) (m : ℕ) (n : Net) where
   -- and their numbers are 1 to 7
   pub faulty-range : {r : Refusal} → Faulty ok m n r → (1 ≤ r .number) × (r .number ≤ 7)
   faulty-range (R.Faulty.one-to-four h) = head-range h
+  faulty-range (R.Faulty.three-of-post z l y k ne h) = ratio-range h
   faulty-range (R.Faulty.five-to-seven z k o h) = segment-range h

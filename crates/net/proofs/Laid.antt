@@ -1,7 +1,8 @@
--- Which posts a walk lays: posts, and never the source (`laid-away`). Over any tree that is given and any ratios.
+-- Which posts a walk lays: posts, and never the source (`laid-away`), so what holds of every post but the source holds of every post laid (`laid-all`).
+-- Over any tree that is given and any ratios.
 use mathlib.Core.Path.{_≡_, ap, _∙_}
 use mathlib.Core.Bool.{Bool}
-use mathlib.Core.List.{List}
+use mathlib.Core.List.{List, [], _∷_}
 use Prim.Native.Nat.{ℕ, _+_, _*_, _<_}
 use native.Mathlib.Omega.{arith}
 use lib.ListN.{length}
@@ -12,6 +13,10 @@ use Rattle.net.proofs.Least.{leads-to}
 use Rattle.net.proofs.Steps.{enter-cases, try-laid, lay-laid, count-laid}
 use Rattle.net.proofs.Notes.{Owed, Fine, fine-try, fine-enter, fine-start, start-laid}
 use Rattle.net.proofs.Tour.{Move, tour, moves, moves-enter, moves-try, moves-none, walk-is-tour, Trip, stay, enters, goes, tour-trip}
+
+all-by : {P Q : ℕ → Type 0} → ((v : ℕ) → P v → Q v) → (l : List ℕ) → AllOf P l → AllOf Q l
+all-by f [] a = tt
+all-by f (v ∷ vs) a = (f v (a .0), all-by f vs (a .1))
 
 module _ (g : Given) (ok : ℕ → Bool) (s : ℕ) (owed : Owed g ok s) where
   -- a post, and not the source
@@ -39,3 +44,6 @@ module _ (g : Given) (ok : ℕ → Bool) (s : ℕ) (owed : Owed g ok s) where
   laid-away k =
       rw (walk-is-tour g k s (atStart (g .posts) s))
       (away-moves (atStart (g .posts) s) (tour-trip g ok s owed k s) (owed .below) (fine-start g ok s owed) (rw (start-laid g ok s owed) tt))
+
+  pub laid-all : (Q : ℕ → Type 0) → ((v : ℕ) → v < g .posts → (v ≡ s → ⊥) → Q v) → (k : ℕ) → AllOf Q ((walk g k s (atStart (g .posts) s)) .laid)
+  laid-all Q f k = all-by {P = Away} {Q = Q} (λ v a. f v (a .0) (a .1)) ((walk g k s (atStart (g .posts) s)) .laid) (laid-away k)

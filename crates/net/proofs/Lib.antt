@@ -24,6 +24,9 @@ pub mod Twice
 pub mod Shortest
 pub mod Between
 pub mod Margin
+pub mod Laid
+pub mod Smallest
+pub mod Own
 pub mod Sound
 pub mod Measuring
 pub mod Ready
@@ -32,5 +35,3 @@ pub mod WalkRuled
 pub mod Demand
 pub mod Worked
 pub mod Ratios
-pub mod Laid
-pub mod Smallest

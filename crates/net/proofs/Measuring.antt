@@ -1,5 +1,6 @@
 -- What a tree's measures come to: its whole length is that of the set of the segments by which its posts hang (`tree-length`), since no two posts hang by
--- one segment (`entries-differ`); its radius is at least the length of every path, and of one (`radius-most`, `radius-one`). Rests on Climbs and Used.
+-- one segment (`entries-differ`), and 0 where the source is the only post (`one-post`); its radius is at least the length of every path, and of one
+-- (`radius-most`, `radius-one`). Rests on Climbs and Used.
 use mathlib.Core.Path.{_≡_, refl, sym, ap, _∙_}
 use mathlib.Core.Bool.{Bool, true, _&&_}
 use mathlib.Core.List.{List}
@@ -56,6 +57,14 @@ module _ (segs : List Segment) (ok : ℕ → Bool) (n s : ℕ) (inside : Inside 
         sum-le n (λ v. counted (hangs t v) (lengthAt segs (entry t v))) (λ v. counted (hangs t v && usedBy n t (entry t v)) (lengthAt segs (entry t v)))
             (λ v h. counted-mono (hangs t v) (hangs t v && usedBy n t (entry t v)) (lengthAt segs (entry t v)) (λ e. and-i e (entry-used n t v (entry t v) h refl))),
       )
+
+  -- and 0 where the source is the only post
+  pub one-post : s < n → n ≡ 1 → whole segs n t ≡ 0
+  unfolding whole
+  one-post below e =
+      let z : s ≡ 0 = omega arith in
+      let f : entry t 0 ≡ noSegment = ap (entry t) (sym z) ∙ tree .source-entry in
+      rw (e, f)
 
   -- ITS RADIUS: no path is longer
   pub radius-most : (v long : ℕ) → v < n → Climb segs ok t s v long → long ≤ radius segs n t

@@ -1,9 +1,9 @@
--- "The ratio isn't reduced: 2/2 and 1/1 build equal trees": a net whose ratio p/q is written as (k × p)/(k × q), within the bounds, has the same trees and the
--- same laid posts, and building refuses it alike. Two walks whose tests on entering agree at the posts are one walk (`walk-alike`); the tests agree by cross products
--- (`scaled-test`). Rests on nothing but the definitions.
+-- "The ratio isn't reduced: 2/2 and 1/1 build equal trees": a net whose house ratio p/q is written as (k × p)/(k × q), and each post's own likewise by a k of its own, within the
+-- bounds, has the same trees and the same laid posts, and building refuses it alike, in both forms. Two walks whose tests on entering agree at the posts are one walk (`walk-alike`);
+-- the tests agree by cross products (`scaled-test`). Rests on nothing but the definitions.
 use mathlib.Core.Path.{_≡_, refl, sym, ap, _∙_}
-use mathlib.Core.Bool.{Bool, true, false}
-use mathlib.Core.List.{List}
+use mathlib.Core.Bool.{Bool, true, false, not, cond}
+use mathlib.Core.List.{List, [], _∷_, _++_}
 use mathlib.Core.Option.{Option, none, some}
 use Prim.Native.Nat.{ℕ, zero, suc, _+_, _*_, _≤_, _<_}
 use native.Mathlib.Omega.{arith}
@@ -12,22 +12,21 @@ use native.Mathlib.Decide.{decLt, ℕ-discrete}
 use lib.Dec.{eqb, ltb}
 use lib.ListN.{length}
 use borrow.Author.Tests.{ne-eqb, lt-ltb, le-ltb}
-use Rattle.net.specs.Words.{each, only}
-use Rattle.net.specs.Net.{Net, mostRatio, scaled, other}
-use Rattle.net.specs.Refusals.{Lent, headLines, netLines}
+use Rattle.net.specs.Words.{only}
+use Rattle.net.specs.Net.{Ratio, house, Net, mostRatio, ratioAt, other}
+use Rattle.net.specs.Refusals.{Lent, line, wrongRatio, headLines, ratioLines, presentLines, ownLines, netLines}
 use Rattle.net.specs.Trees.{at, entry, parent}
 use Rattle.net.specs.Walk.{Notes, Given, hangBy, try, lay, count, enter, child, walk}
-use Rattle.net.specs.Building.{lightestOf, leastLengthsOf, shortestOf, givenWith, walkWith, walkOf, betweenOf, laidOf, treeOf, joinedToSource, buildRefusal, measured, buildAnswer, buildOf, listAfter, afterBuild}
+use Rattle.net.specs.Building.{ratioIn, ratioOf, pOf, qOf, lightestOf, leastLengthsOf, shortestOf, givenWith, walkWith, walkOf, betweenOf, laidOf, treeOf, joinedToSource, buildRefusal, measured, buildAnswer, buildOf, listAfter, afterBuild}
+use Rattle.net.specs.declared.Form.{Form}
+use Rattle.net.specs.declared.Form.the-variants.{First, Second}
 use Rattle.net.specs.declared.Segment.{Segment}
 use Rattle.net.specs.declared.Tree.{Tree}
 use Rattle.net.specs.declared.Tree.the-variants.{Lightest, Shortest, Between}
 use Rattle.net.specs.declared.Refusal.{Refusal}
+use Rattle.net.proofs.Words.{each-same}
 
 -- WALKS THAT AGREE
-each-same : {S : Type 0} (m : ℕ) (f h : ℕ → S → S) (x : S) → ((i : ℕ) → i < m → (y : S) → f i y ≡ h i y) → each m f x ≡ each m h x
-each-same zero f h x e = refl
-each-same (suc m) f h x e = e m (omega arith) (each m f x) ∙ ap (h m) (each-same m f h x (λ i k. e i (omega arith)))
-
 only-same : {S : Type 0} (b : Bool) (f h : S → S) (x : S) → (b ≡ true → f x ≡ h x) → only b f x ≡ only b h x
 only-same true f h x e = e refl
 only-same false f h x e = refl
@@ -74,75 +73,120 @@ scaled-less k a b h = elim (decLt a b) [
 pub scaled-test : (k p q x y : ℕ) → 1 ≤ k → ltb ((k * p + k * q) * x) (k * q * y) ≡ ltb ((p + q) * x) (q * y)
 scaled-test k p q x y h = rw (← mul-add k p q, mul-assoc k (p + q) x, mul-assoc k q y) (scaled-less k ((p + q) * x) (q * y) h)
 
--- A NET at the ratio (k × p)/(k × q)
-abbrev pub scaledNet : ℕ → Net → Net
-scaledNet k n = record { head = scaled k (n .head); segments = n .segments }
+-- r₂ IS r written as (k × p)/(k × q); 3 holds of both or of neither
+pub record Scales (r r₂ : Ratio) : Type 0 where
+  pub k : ℕ
+  pub once : 1 ≤ k
+  pub p-is : r₂ .p ≡ k * r .p
+  pub q-is : r₂ .q ≡ k * r .q
+  pub wrong-both : wrongRatio (r₂ .p) (r₂ .q) ≡ wrongRatio (r .p) (r .q)
 
-module _ (ok : ℕ → Bool) (n : Net) (k : ℕ) (once : 1 ≤ k) where
-  walk-scaled : walkOf ok (scaledNet k n) ≡ walkOf ok n
+pub scales-self : (r : Ratio) → Scales r r
+scales-self r = record { k = 1; once = omega arith; p-is = sym (one-mul (r .p)); q-is = sym (one-mul (r .q)); wrong-both = refl }
+
+-- within the bounds
+pub scales-within : (k p q : ℕ) → 1 ≤ k → k * p ≤ mostRatio → k * q ≤ mostRatio → Scales (record { p = p; q = q }) (record { p = k * p; q = k * q })
+scales-within k p q once small-p small-q = record { k = k; once = once; p-is = refl; q-is = refl; wrong-both = wrong }
+  where
+    least : (x : ℕ) → x ≤ k * x
+    least x = omega (arith, mul-le-mul-right x once, one-mul x)
+
+    zero-both : eqb (k * q) 0 ≡ eqb q 0
+    zero-both = elim (ℕ-discrete q 0) [
+      | yes e ↦ rw (e, mul-zero k)
+      | no e ↦ ne-eqb (k * q) 0 (λ z. e (omega (arith, least q))) ∙ sym (ne-eqb q 0 e)
+    ]
+
+    wrong : wrongRatio (k * p) (k * q) ≡ wrongRatio p q
+    wrong = rw (zero-both, le-ltb mostRatio (k * p) small-p, le-ltb mostRatio (k * q) small-q, le-ltb mostRatio p (omega (arith, least p)), le-ltb mostRatio q (omega (arith, least q)))
+
+-- the test on entering at the ratio r
+abbrev test : Ratio → ℕ → ℕ → Bool
+test r x y = ltb ((r .p + r .q) * x) (r .q * y)
+
+same-test : {r r₂ : Ratio} → Scales r r₂ → (x y : ℕ) → test r₂ x y ≡ test r x y
+same-test {r} z x y = rw (z .p-is, z .q-is) (scaled-test (z .k) (r .p) (r .q) x y (z .once))
+
+-- A NET AT OTHER RATIOS: the house ratio r, and own ratios of the posts
+abbrev pub rated : Ratio → List Ratio → Net → Net
+rated r own n = record { head = record { posts = n .head .posts; source = n .head .source; p = r .p; q = r .q; form = n .head .form }; own = own; segments = n .segments }
+
+module _ (ok : ℕ → Bool) (n : Net) (r : Ratio) (own : List Ratio) (of-house : Scales (house (n .head)) r) (level : length own ≡ length (n .own))
+    (of-own : (v : ℕ) → Scales (ratioAt (n .own) v) (ratioAt own v)) where
+  -- the same net
+  abbrev n₂ : Net
+  n₂ = rated r own n
+
+  own-or-house : (b : Bool) (v x y : ℕ) → test (cond b r (ratioAt own v)) x y ≡ test (cond b (house (n .head)) (ratioAt (n .own) v)) x y
+  own-or-house true v x y = same-test of-house x y
+  own-or-house false v x y = same-test (of-own v) x y
+
+  by-form : (f : Form) (v x y : ℕ) → test (ratioIn f n₂ v) x y ≡ test (ratioIn f n v) x y
+  by-form First v x y = same-test of-house x y
+  by-form Second v x y = own-or-house (eqb v (n .head .source)) v x y
+
+  ratio-scaled : (v x y : ℕ) → test (ratioOf n₂ v) x y ≡ test (ratioOf n v) x y
+  unfolding ratioOf
+  ratio-scaled v x y = by-form (n .head .form) v x y
+
+  walk-scaled : walkOf ok n₂ ≡ walkOf ok n
   unfolding walkOf walkWith givenWith lightestOf shortestOf leastLengthsOf
   walk-scaled =
-      walk-alike (n .segments) (n .head .posts) (lightestOf ok n) (shortestOf ok n) (leastLengthsOf ok n) (λ _. k * n .head .p) (λ _. k * n .head .q) (λ _. n .head .p) (λ _. n .head .q)
-      (λ v. v ≡ v) (λ v _ x y. scaled-test k (n .head .p) (n .head .q) x y once) (λ v i _ _. refl) (n .head .posts) (n .head .source) _ refl
+      walk-alike (n .segments) (n .head .posts) (lightestOf ok n) (shortestOf ok n) (leastLengthsOf ok n) (pOf n₂) (qOf n₂) (pOf n) (qOf n)
+      (λ v. v ≡ v) (λ v _ x y. ratio-scaled v x y) (λ v i _ _. refl) (n .head .posts) (n .head .source) _ refl
 
   -- equal trees
-  pub tree-scaled : (t : Tree) → treeOf ok (scaledNet k n) t ≡ treeOf ok n t
+  pub tree-scaled : (t : Tree) → treeOf ok n₂ t ≡ treeOf ok n t
   unfolding treeOf betweenOf lightestOf shortestOf
   tree-scaled Lightest = refl
   tree-scaled Shortest = refl
   tree-scaled Between = ap (λ w. w .entries) walk-scaled
 
   -- the same laid posts
-  pub laid-scaled : laidOf ok (scaledNet k n) ≡ laidOf ok n
+  pub laid-scaled : laidOf ok n₂ ≡ laidOf ok n
   unfolding laidOf
   laid-scaled = ap (λ w. w .laid) walk-scaled
 
-  module _ (small-p : k * n .head .p ≤ mostRatio) (small-q : k * n .head .q ≤ mostRatio) where
-    least-p : n .head .p ≤ k * n .head .p
-    least-p = omega (arith, mul-le-mul-right (n .head .p) once, one-mul (n .head .p))
+  own-lines : ownLines (n .head) own ≡ ownLines (n .head) (n .own)
+  unfolding ownLines ratioLines
+  own-lines =
+      rw level
+      (each-same (length (n .own)) _ _ [] (λ v _ ls. ap (λ (b : Bool). ls ++ presentLines (not (eqb v (n .head .source))) (line 3 b v ∷ [])) ((of-own v) .wrong-both)))
 
-    least-q : n .head .q ≤ k * n .head .q
-    least-q = omega (arith, mul-le-mul-right (n .head .q) once, one-mul (n .head .q))
+  head-lines : (m : ℕ) → headLines (n₂ .head) m ≡ headLines (n .head) m
+  unfolding headLines
+  head-lines m = rw (of-house .wrong-both)
 
-    zero-scaled : eqb (k * n .head .q) 0 ≡ eqb (n .head .q) 0
-    zero-scaled = elim (ℕ-discrete (n .head .q) 0) [
-      | yes e ↦ rw (e, mul-zero k)
-      | no e ↦ ne-eqb (k * n .head .q) 0 (λ z. e (omega (arith, least-q))) ∙ sym (ne-eqb (n .head .q) 0 e)
-    ]
+  same-own : ownLines (n₂ .head) own ≡ ownLines (n .head) own
+  unfolding ownLines
+  same-own = refl
 
-    lines-scaled : (m : ℕ) → netLines ok m (scaledNet k n) ≡ netLines ok m n
-    unfolding netLines headLines
-    lines-scaled m =
-        rw (
-          zero-scaled,
-          le-ltb mostRatio (k * n .head .p) small-p,
-          le-ltb mostRatio (k * n .head .q) small-q,
-          le-ltb mostRatio (n .head .p) (omega (arith, least-p)),
-          le-ltb mostRatio (n .head .q) (omega (arith, least-q)),
-        )
+  lines-scaled : (m : ℕ) → netLines ok m n₂ ≡ netLines ok m n
+  unfolding netLines
+  lines-scaled m = rw (head-lines m, same-own ∙ own-lines)
 
-    refusal-scaled : (m : ℕ) (lent : Lent) → buildRefusal ok (scaledNet k n) m lent ≡ buildRefusal ok n m lent
-    unfolding buildRefusal joinedToSource
-    refusal-scaled m lent = rw (lines-scaled m)
+  refusal-scaled : (m j : ℕ) (lent : Lent) → buildRefusal ok n₂ m j lent ≡ buildRefusal ok n m j lent
+  unfolding buildRefusal joinedToSource
+  refusal-scaled m j lent = rw (lines-scaled m)
 
-    measured-scaled : (t : Tree) → measured ok (scaledNet k n) t ≡ measured ok n t
-    unfolding measured
-    measured-scaled t = simp (tree-scaled t, walk-scaled)
+  measured-scaled : (t : Tree) → measured ok n₂ t ≡ measured ok n t
+  unfolding measured
+  measured-scaled t = simp (tree-scaled t)
 
-    -- BUILDING answers alike
-    pub build-scaled : (m : ℕ) (lent : Lent) → buildOf ok (scaledNet k n) m lent ≡ buildOf ok n m lent
-    unfolding buildOf buildAnswer
-    build-scaled m lent = rw (refusal-scaled m lent) (go (buildRefusal ok n m lent))
-      where
-        go : (o : Option Refusal) → buildAnswer ok (scaledNet k n) o ≡ buildAnswer ok n o
-        go none = rw (measured-scaled Lightest, measured-scaled Shortest, measured-scaled Between, laid-scaled)
-        go (some r) = refl
+  -- BUILDING answers alike
+  pub build-scaled : (m j : ℕ) (lent : Lent) → buildOf ok n₂ m j lent ≡ buildOf ok n m j lent
+  unfolding buildOf buildAnswer
+  build-scaled m j lent = rw (refusal-scaled m j lent) (go (buildRefusal ok n m j lent))
+    where
+      go : (o : Option Refusal) → buildAnswer ok n₂ o ≡ buildAnswer ok n o
+      go none = rw (measured-scaled Lightest, measured-scaled Shortest, measured-scaled Between, laid-scaled)
+      go (some x) = refl
 
-    -- and leaves the lists alike
-    pub after-scaled : (m : ℕ) (lent : Lent) (t : Tree) (l : List ℕ) → afterBuild ok (scaledNet k n) m lent t l ≡ afterBuild ok n m lent t l
-    unfolding afterBuild listAfter
-    after-scaled m lent t l = rw (refusal-scaled m lent) (go (buildRefusal ok n m lent))
-      where
-        go : (o : Option Refusal) → listAfter ok (scaledNet k n) o t l ≡ listAfter ok n o t l
-        go none = rw (tree-scaled t)
-        go (some r) = refl
+  -- and leaves the lists alike
+  pub after-scaled : (m j : ℕ) (lent : Lent) (t : Tree) (l : List ℕ) → afterBuild ok n₂ m j lent t l ≡ afterBuild ok n m j lent t l
+  unfolding afterBuild listAfter
+  after-scaled m j lent t l = rw (refusal-scaled m j lent) (go (buildRefusal ok n m j lent))
+    where
+      go : (o : Option Refusal) → listAfter ok n₂ o t l ≡ listAfter ok n o t l
+      go none = rw (tree-scaled t)
+      go (some x) = refl

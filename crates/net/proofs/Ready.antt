@@ -1,4 +1,4 @@
--- A net in three lists that the checks let pass is ready, and what that says of its numbers. Three lists of any lengths stand for their common front (`cut-same`).
+-- A net in plain lists that the checks let pass is ready, and what that says of its numbers. Three lists of any lengths stand for their common front (`cut-same`).
 use mathlib.Core.Path.{_≡_, refl, sym, ap, _∙_}
 use mathlib.Core.List.{List, [], _∷_}
 use Prim.Native.Nat.{ℕ, zero, suc, _≤_, _<_}
@@ -6,7 +6,7 @@ use native.Mathlib.Omega.{arith}
 use native.Mathlib.Nat.{le-refl}
 use lib.ListN.{length, take}
 use lib.Seq.{length-take-le}
-use Rattle.net.specs.Net.{every, segmentsOf, mostPosts, mostSegments}
+use Rattle.net.specs.Net.{every, ratiosOf, segmentsOf, mostPosts, mostSegments}
 use Rattle.net.specs.Refusals.{checkOf}
 use Rattle.net.specs.Ready.{netAt, Ready}
 use Rattle.net.specs.declared.Head.{Head}
@@ -19,10 +19,10 @@ use Rattle.net.proofs.Least.{Inside}
 use Rattle.net.proofs.Sound.{inside}
 
 -- none of 1 to 7
-pub ready-sound : (head : Head) (a b lengths : List ℕ) {v : Checked} → length b ≡ length a → length lengths ≡ length a → v ≡ checkOf head (segmentsOf a b lengths) → v ≡ Sound → Ready head a b lengths
-ready-sound head a b lengths h k e f = record { b-level = h; lengths-level = k; sound = check-sound head (segmentsOf a b lengths) .0 (sym e ∙ f) }
+pub ready-sound : (head : Head) (p q a b lengths : List ℕ) {v : Checked} → length b ≡ length a → length lengths ≡ length a → v ≡ checkOf head (ratiosOf p q) (segmentsOf a b lengths) → v ≡ Sound → Ready head p q a b lengths
+ready-sound head p q a b lengths h k e f = record { b-level = h; lengths-level = k; sound = check-sound head (ratiosOf p q) (segmentsOf a b lengths) .0 (sym e ∙ f) }
 
-module _ {head : Head} {a b lengths : List ℕ} (r : Ready head a b lengths) where
+module _ {head : Head} {p q a b lengths : List ℕ} (r : Ready head p q a b lengths) where
   pub ready-count : length (segmentsOf a b lengths) ≡ length a
   ready-count = length-segments a b lengths (r .b-level) (r .lengths-level)
 
@@ -36,7 +36,7 @@ module _ {head : Head} {a b lengths : List ℕ} (r : Ready head a b lengths) whe
   ready-source = r .sound .head-sound .source-in
 
   pub ready-inside : Inside (segmentsOf a b lengths) every (head .posts)
-  ready-inside = inside every (length (segmentsOf a b lengths)) (netAt head a b lengths) (le-refl _) (r .sound)
+  ready-inside = inside every (length (segmentsOf a b lengths)) (netAt head p q a b lengths) (le-refl _) (r .sound)
 
 -- A COMMON FRONT: the first m of each, where the shortest has m, are the same segments
 front-same : (xs ys ls : List ℕ) (m : ℕ) → length (segmentsOf xs ys ls) ≤ m → segmentsOf (take m xs) (take m ys) (take m ls) ≡ segmentsOf xs ys ls
@@ -58,9 +58,9 @@ cut-level xs ys ls {m} e =
     let c = segments-count xs ys ls in
     (length-take-le m xs (omega arith), length-take-le m ys (omega arith), length-take-le m ls (omega arith))
 
--- so a net of three lists that the checks let pass is ready once it is cut
-pub ready-cut : (head : Head) (xs ys ls : List ℕ) {m : ℕ} {v : Checked} → m ≡ length (segmentsOf xs ys ls) → v ≡ checkOf head (segmentsOf xs ys ls) → v ≡ Sound
-    → Ready head (take m xs) (take m ys) (take m ls)
-ready-cut head xs ys ls {m} {v} e f g =
+-- so a net of plain lists that the checks let pass is ready once its segments are cut
+pub ready-cut : (head : Head) (p q xs ys ls : List ℕ) {m : ℕ} {v : Checked} → m ≡ length (segmentsOf xs ys ls) → v ≡ checkOf head (ratiosOf p q) (segmentsOf xs ys ls) → v ≡ Sound
+    → Ready head p q (take m xs) (take m ys) (take m ls)
+ready-cut head p q xs ys ls {m} {v} e f g =
     let c = cut-level xs ys ls e in
-    ready-sound head (take m xs) (take m ys) (take m ls) (c .1 ∙ sym (c .0)) (c .2 ∙ sym (c .0)) (rw (cut-same xs ys ls e) f) g
+    ready-sound head p q (take m xs) (take m ys) (take m ls) (c .1 ∙ sym (c .0)) (c .2 ∙ sym (c .0)) (rw (cut-same xs ys ls e) f) g

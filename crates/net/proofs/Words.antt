@@ -27,6 +27,11 @@ module _ {S : Type 0} (f : ℕ → S) where
   pub tab-out : (n i : ℕ) (d : S) → n ≤ i → getD (tab n f) i d ≡ d
   tab-out n i d h = List·getD-eq-default (tab n f) d (omega (arith, length-tab n))
 
+-- two ways that agree at each number below m
+pub each-same : {S : Type 0} (m : ℕ) (f h : ℕ → S → S) (x : S) → ((i : ℕ) → i < m → (y : S) → f i y ≡ h i y) → each m f x ≡ each m h x
+each-same zero f h x e = refl
+each-same (suc m) f h x e = e m (omega arith) (each m f x) ∙ ap (h m) (each-same m f h x (λ i k. e i (omega arith)))
+
 -- f k times
 module _ {S : Type 0} (f : S → S) where
   pub each-inner : (n : ℕ) (s : S) → each n (λ _. f) (f s) ≡ f (each n (λ _. f) s)

@@ -1,16 +1,22 @@
 -- The table of nets worked by hand holds: every row is computed from the definitions.
 use mathlib.Core.Path.{refl}
-use Rattle.net.specs.Refusals.{first, headLines, segmentLines, presentLines, allSegmentLines, netLines, lentLines, joinedLines, postLines}
-use Rattle.net.specs.Net.{before}
+use native.Mathlib.Omega.{arith}
+use Rattle.net.specs.Refusals.{first, headLines, ratioLines, ownLines, segmentLines, presentLines, allSegmentLines, netLines, lentLines, roomOfRatios, joinedLines, postLines}
+use Rattle.net.specs.Net.{ownOf, before}
 use Rattle.net.specs.Trees.{better, round, least, hung, fewest, joined, hungFrom, belongs, belonging, lightest, leastLengths, hangingWeight, shortest, pathUp, pathIn, radius, whole, marginBy}
 use Rattle.net.specs.Walk.{atStart, hangBy, try, lay, count, enter, walk}
-use Rattle.net.specs.Building.{lightestOf, leastLengthsOf, shortestOf, givenWith, walkWith, walkOf, betweenOf, laidOf, treeOf, joinedToSource, buildRefusal, marginRefusal, measured, buildAnswer, buildOf, listAfter, afterBuild, marginIn, marginAnswer, marginOf}
-use Rattle.net.specs.Worked.{NetsWorked}
+use Rattle.net.specs.Building.{SmallestOf, ratioOf, lightestOf, leastLengthsOf, shortestOf, givenWith, walkWith, walkOf, betweenOf, laidOf, treeOf, joinedToSource, buildRefusal, marginRefusal, measured, buildAnswer, buildOf, listAfter, afterBuild, marginIn, marginAnswer, marginOf}
+use Rattle.net.specs.Worked.{netOwn, NetsWorked}
+
+-- 0/1 is smaller than any ratio
+netOwn-smallest : SmallestOf netOwn 3
+unfolding ratioOf ownOf
+netOwn-smallest = record { is-post = omega arith; not-source = λ e. omega arith; no-smaller = λ u h ne. omega arith }
 
 pub nets-worked : NetsWorked
-unfolding first headLines segmentLines presentLines allSegmentLines netLines lentLines joinedLines postLines before
+unfolding first headLines ratioLines ownLines segmentLines presentLines allSegmentLines netLines lentLines roomOfRatios joinedLines postLines ownOf before
     better round least hung fewest joined hungFrom belongs belonging lightest leastLengths hangingWeight shortest
-    pathUp pathIn radius whole marginBy atStart hangBy try lay count enter walk lightestOf leastLengthsOf
+    pathUp pathIn radius whole marginBy atStart hangBy try lay count enter walk ratioOf lightestOf leastLengthsOf
     shortestOf givenWith walkWith walkOf betweenOf laidOf treeOf joinedToSource buildRefusal marginRefusal
     measured buildAnswer buildOf listAfter afterBuild marginIn marginAnswer marginOf
 nets-worked =
@@ -72,4 +78,45 @@ nets-worked =
       margin-refuses-19 = refl;
       margin-of-source = refl;
       takes-most = refl;
+      own-1/1 = refl;
+      own-1/1-between = refl;
+      own-2-laid = refl;
+      own-2-between = refl;
+      own-7/5 = refl;
+      own-7/5-between = refl;
+      own-6/5 = refl;
+      own-6/5-between = refl;
+      own-source-2 = refl;
+      own-source-2-between = refl;
+      own-one-post = refl;
+      own-two-posts = refl;
+      own-source-unread = refl;
+      own-margin-source = refl;
+      own-margin-1 = refl;
+      own-margin-2 = refl;
+      own-margin-3 = refl;
+      own-shortest-source = refl;
+      own-shortest-1 = refl;
+      own-shortest-2 = refl;
+      own-shortest-3 = refl;
+      own-between = refl;
+      own-between-source = refl;
+      own-between-1 = refl;
+      own-between-2 = refl;
+      own-between-3 = refl;
+      own-smallest = netOwn-smallest;
+      own-refuses-house = refl;
+      own-refuses-3 = refl;
+      own-refuses-3-first = refl;
+      own-refuses-3-large-q = refl;
+      own-refuses-3-post-0 = refl;
+      own-refuses-5 = refl;
+      own-refuses-4 = refl;
+      own-refuses-3-short = refl;
+      own-refuses-5-short = refl;
+      own-refuses-8 = refl;
+      first-refuses-8 = refl;
+      own-margin-refuses-8 = refl;
+      first-margin-refuses-8 = refl;
+      first-unread = refl;
     }

@@ -1,15 +1,18 @@
--- A net: "a number of posts, a source post, a ratio p/q and a list of segments". What a segment joins; routes and
--- chains; sets of segments. A *present* test `ok` on segment numbers picks a part of a net: all of it (`every`), the
--- segments before one of them, the segments of a tree.
+-- A net: "a number of posts, a source post, a ratio p/q and a list of segments", and in the second form a ratio of its
+-- own for "every post but the source". What a segment joins; routes and chains; sets of segments. A *present* test `ok`
+-- on segment numbers picks a part of a net: all of it (`every`), the segments before one of them, the segments of a
+-- tree.
 use mathlib.Core.Path.{_≡_}
 use mathlib.Core.Logic.{_⊎_}
 use mathlib.Core.Bool.{Bool, true, not, _&&_, _||_, cond}
 use mathlib.Core.List.{List, [], _∷_}
-use Prim.Native.Nat.{ℕ, _+_, _*_, _<_}
+use Prim.Native.Nat.{ℕ, _+_, _*_, _<_, min}
 use lib.Dec.{eqb, ltb}
 use lib.ListN.{length, getD, take}
-use Rattle.net.specs.Words.{sum, counted}
+use Rattle.net.specs.Words.{tab, sum, counted}
 use Rattle.net.specs.declared.Segment.{Segment}
+use Rattle.net.specs.declared.Form.{Form}
+use Rattle.net.specs.declared.Form.the-variants.{First, Second}
 use Rattle.net.specs.declared.Head.{Head}
 
 -- NUMBERS THAT BOUND A NET
@@ -29,18 +32,54 @@ longest = 1048575
 abbrev pub mostRatio : ℕ
 mostRatio = 10000
 
--- the head has the number of posts, the source and the ratio
+-- a ratio p/q
+pub record Ratio : Type 0 where
+  pub p : ℕ
+  pub q : ℕ
+
+-- the house ratio
+abbrev pub house : Head → Ratio
+house h = record { p = h .p; q = h .q }
+
+-- what stands where a post has no ratio of its own
+abbrev pub noRatio : Ratio
+noRatio = record { p = 0; q = 0 }
+
+abbrev pub ratioAt : List Ratio → ℕ → Ratio
+ratioAt l v = getD l v noRatio
+
+-- the head has the number of posts, the source, the house ratio and the form; `own` has the posts' own ratios
 pub record Net : Type 0 where
   pub head : Head
+  pub own : List Ratio
   pub segments : List Segment
 
--- the same head with its ratio p/q written as (k × p)/(k × q): "The ratio isn't reduced"
+-- the same head with its house ratio p/q written as (k × p)/(k × q): "The ratio isn't reduced"
 abbrev pub scaled : ℕ → Head → Head
-scaled k h = record { posts = h .posts; source = h .source; p = k * h .p; q = k * h .q }
+scaled k h = record { posts = h .posts; source = h .source; p = k * h .p; q = k * h .q; form = h .form }
 
--- the net of a head and of the first m segments of a list
-abbrev pub netOf : Head → ℕ → List Segment → Net
-netOf head m segs = record { head = head; segments = take m segs }
+-- what a net keeps of the ratios that are lent: nothing in the first form; in the second "every post but the source now
+-- has its own p and q; the source's place in their lent list is neither read nor written", so it is blank
+abbrev pub keptIn : Form → ℕ → ℕ → List Ratio → List Ratio
+keptIn First posts source l = []
+keptIn Second posts source l = tab (min posts (length l)) (λ v. cond (eqb v source) noRatio (ratioAt l v))
+
+unfoldable pub ownOf : Head → List Ratio → List Ratio
+ownOf h l = keptIn (h .form) (h .posts) (h .source) l
+
+-- the net of a head, of ratios that are lent and of segments
+abbrev pub netWith : Head → List Ratio → List Segment → Net
+netWith head ratios segs = record { head = head; own = ownOf head ratios; segments = segs }
+
+-- the net of a head, of ratios that are lent and of the first m segments of a list
+abbrev pub netOf : Head → List Ratio → ℕ → List Segment → Net
+netOf head ratios m segs = netWith head ratios (take m segs)
+
+-- two lists side by side: a ratio for each place that both have
+abbrev pub ratiosOf : List ℕ → List ℕ → List Ratio
+ratiosOf (x ∷ xs) (y ∷ ys) = record { p = x; q = y } ∷ ratiosOf xs ys
+ratiosOf (x ∷ xs) [] = []
+ratiosOf [] ys = []
 
 -- three lists side by side: a segment for each place that all three have
 abbrev pub segmentsOf : List ℕ → List ℕ → List ℕ → List Segment

@@ -8,7 +8,8 @@ use Prim.Native.Nat.{ℕ}
 use lib.Dec.{eqb, ltb, leb}
 use lib.ListN.{length}
 use Rattle.net.specs.Words.{each}
-use Rattle.net.specs.Net.{Net, mostPosts, mostSegments, longest, mostRatio, every, segmentAt}
+use Rattle.net.specs.Net.{Ratio, Net, mostPosts, mostSegments, longest, mostRatio, ratioAt, netWith, every}
+use Rattle.net.specs.Net.{segmentAt}
 use Rattle.net.specs.declared.Segment.{Segment}
 use Rattle.net.specs.declared.Head.{Head}
 use Rattle.net.specs.declared.Refusal.{Refusal}
@@ -31,14 +32,22 @@ unfoldable pub first : List Line → Option Refusal
 first [] = none
 first (l ∷ ls) = cond (l .holds) (some (l .gives)) (first ls)
 
+-- "q is 0, or p or q above 10,000"
+abbrev pub wrongRatio : ℕ → ℕ → Bool
+wrongRatio p q = eqb q 0 || ltb mostRatio p || ltb mostRatio q
+
 -- 1 to 4; m is the number of segments
 unfoldable pub headLines : Head → ℕ → List Line
 headLines h m =
     line 1 (eqb (h .posts) 0 || ltb mostPosts (h .posts)) 0
     ∷ line 2 (leb (h .posts) (h .source)) 0
-    ∷ line 3 (eqb (h .q) 0 || ltb mostRatio (h .p) || ltb mostRatio (h .q)) 0
+    ∷ line 3 (wrongRatio (h .p) (h .q)) 0
     ∷ line 4 (ltb mostSegments m) 0
     ∷ []
+
+-- 3 of the own ratio of post v
+unfoldable pub ratioLines : ℕ → Ratio → List Line
+ratioLines v r = line 3 (wrongRatio (r .p) (r .q)) v ∷ []
 
 -- 5, 6, 7 of segment i
 unfoldable pub segmentLines : ℕ → Segment → ℕ → List Line
@@ -48,10 +57,15 @@ segmentLines posts s i =
     ∷ line 7 (eqb (s .length) 0 || ltb longest (s .length)) i
     ∷ []
 
--- the lines of segment i if it is there
+-- the lines of a thing that is there, and none of one that isn't
 unfoldable pub presentLines : Bool → List Line → List Line
 presentLines true ls = ls
 presentLines false ls = []
+
+-- "3 also covers a post's ratio, place the post, after the head's 4": each post but the source, as far as the ratios go
+unfoldable pub ownLines : Head → List Ratio → List Line
+ownLines h own = each (length own)
+    (λ v ls. ls ++ presentLines (not (eqb v (h .source))) (ratioLines v (ratioAt own v))) []
 
 -- "then for each segment in turn 5, 6, 7"
 unfoldable pub allSegmentLines : (ℕ → Bool) → ℕ → List Segment → List Line
@@ -60,7 +74,8 @@ allSegmentLines ok posts segs = each (length segs)
 
 -- 1 to 7
 unfoldable pub netLines : (ℕ → Bool) → ℕ → Net → List Line
-netLines ok m n = headLines (n .head) m ++ allSegmentLines ok (n .head .posts) (n .segments)
+netLines ok m n = headLines (n .head) m
+    ++ (ownLines (n .head) (n .own) ++ allSegmentLines ok (n .head .posts) (n .segments))
 
 -- how many entries the three lent tree lists have
 pub record Lent : Type 0 where
@@ -68,10 +83,15 @@ pub record Lent : Type 0 where
   pub shortest : ℕ
   pub between : ℕ
 
--- 8
+-- 8 of the tree lists
 unfoldable pub lentLines : ℕ → Lent → List Line
 lentLines posts lent = line 8 (ltb (lent .lightest) posts || ltb (lent .shortest) posts || ltb (lent .between) posts) 0
     ∷ []
+
+-- 8 of the k ratios that are lent, whatever the form: "Any other list lent with one entry for each post is held to 8 in
+-- the same place, after 7, and until then it is read only as far as it goes."
+unfoldable pub roomOfRatios : ℕ → ℕ → List Line
+roomOfRatios posts k = line 8 (ltb k posts) 0 ∷ []
 
 -- 9: "lowest such post", so the posts in rising order; joined says of each post whether it is joined to the source
 unfoldable pub joinedLines : ℕ → (ℕ → Bool) → List Line
@@ -92,5 +112,5 @@ saysOf Sound = none
 saysOf (Refused r) = some r
 
 -- what a check of a whole net answers: 1 to 7
-unfoldable pub checkOf : Head → List Segment → Checked
-checkOf head segs = checkedOf (first (netLines every (length segs) (record { head = head; segments = segs })))
+unfoldable pub checkOf : Head → List Ratio → List Segment → Checked
+checkOf head ratios segs = checkedOf (first (netLines every (length segs) (netWith head ratios segs)))

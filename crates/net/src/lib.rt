@@ -1,7 +1,8 @@
-// A net: "a number of posts, a source post, a ratio p/q and a list of segments". What it is made of, and what an answer
-// about it is made of. The definitions that every other crate's contracts cite stand in specs/, in document 01's words;
-// the laws up to demand 3 in proofs/. The only functions are small steps that several crates take (`plain`); the checks
-// 1 to 7 are those of `checks`.
+// A net: "a number of posts, a source post, a ratio p/q and a list of segments", and in the second form a ratio of its
+// own for every post but the source. What it is made of, and what an answer about it is made of. The definitions that
+// every other crate's contracts cite stand in specs/, in the words of documents 01 and 02; the laws up to demand 3 in
+// proofs/. The only functions are small steps that several crates take (`plain`); the checks 1 to 7 are those of
+// `checks`.
 
 pub mod plain;
 
@@ -36,12 +37,21 @@ pub struct Segment {
     pub length: u32,
 }
 
-// All of a net but its segments: the number of posts, the source, and the ratio p/q.
+// "the form belongs to the net". In the first form the house ratio rules every post; in the second "every post but the
+// source now has its own p and q", and the house ratio is kept and checked.
+pub enum Form {
+    First,
+    Second,
+}
+
+// All of a net but its segments and its posts' own ratios: the number of posts, the source, the house ratio p/q, and
+// the form.
 pub struct Head {
     pub posts: u32,
     pub source: u32,
     pub p: u32,
     pub q: u32,
+    pub form: Form,
 }
 
 // "a refusal with its number and its place"

@@ -8,7 +8,7 @@ use mir.Syntax.{w64}
 use base.Logic.{ent, sep}
 use prog.Wp.{Heap}
 use ghost.Atoms.{Atoms}
-use contract.Lifetimes.{Lfts}
+use contract.Lifetimes.{Lfts, Within}
 use types.Kit.{Given, mean, ‵, _⊛_, given, _$_, _∵_, !, qed, by, move, drop, use1, split, learn, fjoin, done}
 use denote.Laws.{Is}
 use denote.Plain.{uint-makes}
@@ -34,8 +34,12 @@ numbered = enum Numbered.the-type tt Numbered′.the-laws Numbered′.the-copy N
 abbrev pub bytes : Held 1
 bytes = slice 0 tt u8
 
+-- a reader whose bytes are lent at lifetime j of n
+abbrev pub reader-of : {n : ℕ} (j : ℕ) → Within n j → Held n
+reader-of j ok = struct j ok T.the-type T′.the-laws T′.the-copy
+
 abbrev pub reader : Held 1
-reader = struct 0 tt T.the-type T′.the-laws T′.the-copy
+reader = reader-of 0 tt
 
 module _ {M : Type 1} (𝓤 : URA M) (H : Heap 𝓤) (A : Atoms 𝓤) (W : Given 𝓤 H A) (κs : Lfts 1) where
   abbrev D : Declared

@@ -4,7 +4,7 @@ use mathlib.Core.Path.{_≡_, refl, sym, ap, _∙_}
 use mathlib.Core.List.{List}
 use Prim.Native.Nat.{ℕ}
 use lib.ListN.{length}
-use Rattle.net.specs.Net.{Net, every}
+use Rattle.net.specs.Net.{Net, every, mostPosts}
 use Rattle.net.specs.Refusals.{Lent, saysOf}
 use Rattle.net.specs.Building.{BuildAnswer, built, refused, buildOf}
 use Rattle.net.specs.declared.Head.{Head}
@@ -50,14 +50,14 @@ says-built h m (built l s b k) = refl
 says-built h m (refused r) = refl
 
 says-plan : (g : Got Net) (lent : Lent) → saysPlanned (planOf g lent) ≡ planSaid g lent
-says-plan (got n next) lent = says-built (n .head) (length (n .segments)) (buildOf every n (length (n .segments)) lent)
+says-plan (got n next) lent = says-built (n .head) (length (n .segments)) (buildOf every n (length (n .segments)) mostPosts lent)
 says-plan (unread r) lent = refl
 
 pub plan-says : (bytes l s w : List ℕ) {r : PlanAnswer} {l′ s′ w′ : List ℕ} → Plans bytes l s w r l′ s′ w′ → saysPlanned r ≡ planSaid (recordRead bytes) (lentOf l s w)
 plan-says bytes l s w p = ap saysPlanned (p .answer) ∙ says-plan (recordRead bytes) (lentOf l s w)
 
 says-rewrite : (g : Got Net) (room : ℕ) → saysWritten (rewriteOf g room) ≡ rewriteSaid g room
-says-rewrite (got n next) room = says-written n (length (n .segments)) room
+says-rewrite (got n next) room = says-written n (length (n .segments)) mostPosts room
 says-rewrite (unread r) room = refl
 
 pub rewrite-says : (bytes room : List ℕ) {r : WriteAnswer} {x : List ℕ} → Rewrites bytes room r x → saysWritten r ≡ rewriteSaid (recordRead bytes) (length room)

@@ -6,7 +6,7 @@ use mathlib.Core.List.{List}
 use Prim.Native.Nat.{ℕ, _≤_}
 use denote.Ref.{RefT, now}
 use lib.ListN.{length, take}
-use Rattle.net.specs.Net.{Net, every, mostSegments}
+use Rattle.net.specs.Net.{Net, every, mostPosts, mostSegments}
 use Rattle.net.specs.Refusals.{Lent}
 use Rattle.net.specs.Ready.{netAt, Ready}
 use Rattle.net.specs.Building.{BuildAnswer, built, refused, buildOf, afterBuild, marginOf}
@@ -28,23 +28,26 @@ use Rattle.writing.specs.declared.WriteAnswer.the-variants.{Refused as Unwritte
 use Rattle.on_records.specs.declared.PlanAnswer.{PlanAnswer}
 use Rattle.on_records.specs.declared.PlanAnswer.the-variants.{Planned, Refused}
 
--- a record is read with places for as many segments as a net may have, so that 8 is never given for them (proofs/Room)
+-- a record is read with places for as many segments and posts as a net may have, so that 8 is never given for them, and
+-- the net that was read is handed on with as many ratios (proofs/Room)
 unfoldable pub recordRead : List ℕ → Got Net
-recordRead bytes = netRead bytes mostSegments 0
+recordRead bytes = netRead bytes mostSegments mostPosts 0
 
--- the net of a head and of the first m segments of three lists
-abbrev pub frontOf : Head → ℕ → List ℕ → List ℕ → List ℕ → Net
-frontOf h m a b l = netAt h (take m a) (take m b) (take m l)
+-- the net of a head, of the ratios of two lists and of the first m segments of three
+abbrev pub frontOf : Head → ℕ → List ℕ → List ℕ → List ℕ → List ℕ → List ℕ → Net
+frontOf h m p q a b l = netAt h p q (take m a) (take m b) (take m l)
 
-abbrev pub frontBy : Head → ℕ → RefT (List ℕ) → RefT (List ℕ) → RefT (List ℕ) → Net
-frontBy h m a b l = frontOf h m (now a) (now b) (now l)
+abbrev pub frontBy : Head → ℕ → RefT (List ℕ) → RefT (List ℕ) → RefT (List ℕ) → RefT (List ℕ) → RefT (List ℕ) → Net
+frontBy h m p q a b l = frontOf h m (now p) (now q) (now a) (now b) (now l)
 
--- three lists have so many places, and nothing from 1 to 7 refuses the net in them
-pub record Front (h : Head) (m : ℕ) (a b l : List ℕ) : Type 0 where
+-- two lists have a place for every post, three have so many places, and nothing from 1 to 7 refuses the net in them
+pub record Front (h : Head) (m : ℕ) (p q a b l : List ℕ) : Type 0 where
+  pub p-long : length p ≡ mostPosts
+  pub q-long : length q ≡ mostPosts
   pub a-long : m ≤ length a
   pub b-long : m ≤ length b
   pub l-long : m ≤ length l
-  pub ready : Ready h (take m a) (take m b) (take m l)
+  pub ready : Ready h p q (take m a) (take m b) (take m l)
 
 -- PLAN: what building answers, with a head and a number of segments
 abbrev pub plannedWith : Head → ℕ → BuildAnswer → PlanAnswer
@@ -58,12 +61,13 @@ plannedAs h m (Unbuilt r) = Refused r
 
 -- of the net that was read, with its head and the number of its segments; or the refusal of reading
 abbrev pub planOf : Got Net → Lent → PlanAnswer
-planOf (got n next) lent = plannedWith (n .head) (length (n .segments)) (buildOf every n (length (n .segments)) lent)
+planOf (got n next) lent = plannedWith (n .head) (length (n .segments))
+    (buildOf every n (length (n .segments)) mostPosts lent)
 planOf (unread r) lent = Refused r
 
 -- a lent tree list afterwards: as building leaves it; after a refusal of reading "what it held before"
 abbrev pub treeList : Got Net → Lent → Tree → List ℕ → List ℕ
-treeList (got n next) lent t l = afterBuild every n (length (n .segments)) lent t l
+treeList (got n next) lent t l = afterBuild every n (length (n .segments)) mostPosts lent t l
 treeList (unread r) lent t l = l
 
 -- what planning a record leaves, where the three lists held l, s and w: its answer r, and what the lists hold then
@@ -75,19 +79,19 @@ pub record Plans (bytes l s w : List ℕ) (r : PlanAnswer) (l′ s′ w′ : Lis
 
 -- the same of a net that is at hand: h is its head, and m the number of segments that is claimed
 pub record PlansNet (h : Head) (m : ℕ) (n : Net) (l s w : List ℕ) (r : PlanAnswer) (l′ s′ w′ : List ℕ) : Type 0 where
-  pub answer : r ≡ plannedWith h m (buildOf every n m (lentOf l s w))
-  pub lightest : l′ ≡ afterBuild every n m (lentOf l s w) Lightest l
-  pub shortest : s′ ≡ afterBuild every n m (lentOf l s w) Shortest s
-  pub between : w′ ≡ afterBuild every n m (lentOf l s w) Between w
+  pub answer : r ≡ plannedWith h m (buildOf every n m mostPosts (lentOf l s w))
+  pub lightest : l′ ≡ afterBuild every n m mostPosts (lentOf l s w) Lightest l
+  pub shortest : s′ ≡ afterBuild every n m mostPosts (lentOf l s w) Shortest s
+  pub between : w′ ≡ afterBuild every n m mostPosts (lentOf l s w) Between w
 
 -- REWRITE: what writing answers of the net; room is how many bytes are lent
 abbrev pub rewriteOf : Got Net → ℕ → WriteAnswer
-rewriteOf (got n next) room = writeAnswerOf n (length (n .segments)) room
+rewriteOf (got n next) room = writeAnswerOf n (length (n .segments)) mostPosts room
 rewriteOf (unread r) room = Unwritten r
 
 -- the room afterwards: as writing leaves it; after a refusal of reading "what it held before"
 abbrev pub roomOf : Got Net → List ℕ → List ℕ
-roomOf (got n next) room = roomAfter n (length (n .segments)) room
+roomOf (got n next) room = roomAfter n (length (n .segments)) mostPosts room
 roomOf (unread r) room = room
 
 -- what writing a record again leaves, where the room held `room`: its answer r, and what the room holds then
@@ -97,7 +101,7 @@ pub record Rewrites (bytes room : List ℕ) (r : WriteAnswer) (room′ : List �
 
 -- MARGIN: what margin answers of the net
 abbrev pub marginSaid : Got Net → Tree → ℕ → B.MarginAnswer
-marginSaid (got n next) t post = marginOf every n (length (n .segments)) t post
+marginSaid (got n next) t post = marginOf every n (length (n .segments)) mostPosts t post
 marginSaid (unread r) t post = B.MarginAnswer.refused r
 
 -- the same in the code's enum

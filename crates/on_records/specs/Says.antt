@@ -4,7 +4,7 @@
 use mathlib.Core.Option.{Option, none, some}
 use Prim.Native.Nat.{ℕ}
 use lib.ListN.{length}
-use Rattle.net.specs.Net.{Net, every}
+use Rattle.net.specs.Net.{Net, every, mostPosts}
 use Rattle.net.specs.Refusals.{Lent}
 use Rattle.net.specs.Building.{BuildAnswer, built, refused, buildOf}
 use Rattle.net.specs.declared.Head.{Head}
@@ -39,12 +39,13 @@ builtSaid h m (refused r) = refusal-of r
 
 -- WHAT IS TO BE SAID of a record: reading's refusal, or what building answers of the net that was read
 abbrev pub planSaid : Got Net → Lent → Said Plan
-planSaid (got n next) lent = builtSaid (n .head) (length (n .segments)) (buildOf every n (length (n .segments)) lent)
+planSaid (got n next) lent = builtSaid (n .head) (length (n .segments))
+    (buildOf every n (length (n .segments)) mostPosts lent)
 planSaid (unread r) lent = refusal-of r
 
 -- or what writing answers
 abbrev pub rewriteSaid : Got Net → ℕ → Said ℕ
-rewriteSaid (got n next) room = saidSize (writeRefusal n (length (n .segments)) room) (length (netWritten n))
+rewriteSaid (got n next) room = saidSize (writeRefusal n (length (n .segments)) mostPosts room) (length (netWritten n))
 rewriteSaid (unread r) room = refusal-of r
 
 -- or nothing

@@ -41,8 +41,8 @@ use Rattle.on_segments.proofs.for_lengths.Symbol as lengths-def
 use Rattle.on_segments.proofs.for_lengths.Met as lengths-thm
 use Rattle.on_segments.proofs.Types as O
 
-abbrev kinds : List (Kind 4)
-kinds = dat T.head ∷ shr 0 tt Segment.the-row ∷ own 1 tt u16 ∷ own 2 tt u16 ∷ own 3 tt u32 ∷ []
+abbrev kinds : List (Kind 6)
+kinds = dat T.head ∷ shr 0 tt u32 ∷ shr 1 tt u32 ∷ shr 2 tt Segment.the-row ∷ own 3 tt u16 ∷ own 4 tt u16 ∷ own 5 tt u32 ∷ []
 
 -- three local lists with a place for each segment that a net may have
 pub record Own (x y z : List ℕ) : Type 0 where
@@ -110,42 +110,44 @@ module _ {M : Type 1} (𝓤 : URA M) (H : Heap 𝓤) (𝓜 : Model 𝓤 H) (𝓖
 
   module _ (known : γ take-in-def.name ≡ take-in-def.routine) where
     abbrev to-take-in : Callee 𝓤 H A (𝓣 .C) take-in-def.name
-    to-take-in = callee 𝓤 H 𝓜 𝓖 𝓡 γ 4 kinds T.checked (take-in.clauses 𝓤 H A (𝓜 .mem) (𝓡 .run)) take-in-def.name take-in-def.routine known (take-in-thm.met 𝓤 H 𝓜 𝓖 𝓡)
+    to-take-in = callee 𝓤 H 𝓜 𝓖 𝓡 γ 6 kinds T.checked (take-in.clauses 𝓤 H A (𝓜 .mem) (𝓡 .run)) take-in-def.name take-in-def.routine known (take-in-thm.met 𝓤 H 𝓜 𝓖 𝓡)
 
-    module _ (κ : Lft) (s : Share) (h : Head) (g : RefT (List Seg)) {x y z : List ℕ} (o : Own x y z) (b₁ b₂ b₃ : ℕ) where
+    module _ (κ₁ κ₂ κ₃ : Lft) (s₁ s₂ s₃ : Share) (h : Head) (p₀ q₀ : RefT (List ℕ)) (g : RefT (List Seg)) {x y z : List ℕ} (o : Own x y z) (b₁ b₂ b₃ : ℕ) where
       -- what it is called with, where α, β and δ are the lists' lifetimes
-      abbrev lfts : ℕ → ℕ → ℕ → Lfts 4
-      lfts α β δ = (κ, (α ∷ [], (β ∷ [], (δ ∷ [], tt))))
+      abbrev lfts : ℕ → ℕ → ℕ → Lfts 6
+      lfts α β δ = (κ₁, (κ₂, (κ₃, (α ∷ [], (β ∷ [], (δ ∷ [], tt))))))
 
-      abbrev parts : Shares 4
-      parts = (s, (fullShare, (fullShare, (fullShare, tt))))
+      abbrev parts : Shares 6
+      parts = (s₁, (s₂, (s₃, (fullShare, (fullShare, (fullShare, tt))))))
 
       abbrev given : (α β δ : ℕ) → GName → GName → GName → Denoted (lfts α β δ) kinds
-      given α β δ γ₁ γ₂ γ₃ = (h, (g, (record { ptr = (b₁, 0); name = γ₁; now = x }, (record { ptr = (b₂, 0); name = γ₂; now = y }, (record { ptr = (b₃, 0); name = γ₃; now = z }, tt)))))
+      given α β δ γ₁ γ₂ γ₃ = (h, (p₀, (q₀, (g, (record { ptr = (b₁, 0); name = γ₁; now = x }, (record { ptr = (b₂, 0); name = γ₂; now = y }, (record { ptr = (b₃, 0); name = γ₃; now = z }, tt)))))))
 
       -- its operands, where the lists are lent
       abbrev Given-as : Type 0 → List (Item 𝓤) → Env 𝓤 H → List Operand → Type 2
       Given-as K Γ E xs = (α β δ : ℕ) (γ₁ γ₂ γ₃ : GName) → Opds K W
-          (raw (sep 𝓤 (onEntry 𝓤 H A (thin 4 kinds T.checked .signature) (lfts α β δ) parts (given α β δ γ₁ γ₂ γ₃) (vals (lfts α β δ) kinds (given α β δ γ₁ γ₂ γ₃))) (to-take-in .clauses (lfts α β δ) (given α β δ γ₁ γ₂ γ₃) .requires tt))
+          (raw (sep 𝓤 (onEntry 𝓤 H A (thin 6 kinds T.checked .signature) (lfts α β δ) parts (given α β δ γ₁ γ₂ γ₃) (vals (lfts α β δ) kinds (given α β δ γ₁ γ₂ γ₃))) (to-take-in .clauses (lfts α β δ) (given α β δ γ₁ γ₂ γ₃) .requires tt))
           ∷ raw (⋆ 𝓤 H A (keeps 𝓤 (lfts α β δ) kinds (given α β δ γ₁ γ₂ γ₃)))
           ∷ ‵ (flent (δ ∷ []) (Held u32 (length z) b₃ 0 γ₃)) ∷ ‵ (flent (β ∷ []) (Held u16 (length y) b₂ 0 γ₂)) ∷ ‵ (flent (α ∷ []) (Held u16 (length x) b₁ 0 γ₁)) ∷ Γ) E xs (passed (lfts α β δ) kinds (given α β δ γ₁ γ₂ γ₃))
 
-      abbrev segs : Item 𝓤
-      segs = ‵ (ShrSlice (named 0) κ Segment.the-row .own g (slice-vals g))
+      -- what else is lent to it: the tokens, the ratios and the segments
+      abbrev lent : List (Item 𝓤) → List (Item 𝓤)
+      lent Γ = ‵ (flft κ₁ s₁) ∷ ‵ (flft κ₂ s₂) ∷ ‵ (flft κ₃ s₃) ∷ ‵ (ShrSlice (named 0) κ₁ u32 .own p₀ (slice-vals p₀)) ∷ ‵ (ShrSlice (named 1) κ₂ u32 .own q₀ (slice-vals q₀))
+          ∷ ‵ (ShrSlice (named 2) κ₃ Segment.the-row .own g (slice-vals g)) ∷ Γ
 
       pub taking : {K : Type 0} → K → {E : Env 𝓤 H} {q : Post 𝓤 H} {xs : List Operand} {d : Place} {rest : Body} {Γ : List (Item 𝓤)} → Is (T.head .row) h (T.head .val h ∷ []) → Given-as K Γ E xs
-          → ((v : Checked) (x′ y′ z′ : List ℕ) → Is (T.checked .row) v (T.checked .val v ∷ []) → Typed (T.checked .row .mir) (T.checked .val v ∷ []) → Own x′ y′ z′ → TakenIn h (now g) v x′ y′ z′
-          → Seq K W (ends-at b₁ x′ ∷ ends-at b₂ y′ ∷ lengths-at b₃ z′ ∷ ‵ (flft κ s) ∷ segs ∷ Γ) (lands (𝓣 .C) (𝓣 .Λ) E d (T.checked .val v) rest q))
-          → Seq K W (ends-at b₁ x ∷ ends-at b₂ y ∷ lengths-at b₃ z ∷ ‵ (flft κ s) ∷ segs ∷ Γ) (runs (𝓣 .C) (𝓣 .Λ) E (seq (call take-in-def.name xs d) rest) q)
+          → ((v : Checked) (x′ y′ z′ : List ℕ) → Is (T.checked .row) v (T.checked .val v ∷ []) → Typed (T.checked .row .mir) (T.checked .val v ∷ []) → Own x′ y′ z′ → TakenIn h (now p₀) (now q₀) (now g) v x′ y′ z′
+          → Seq K W (ends-at b₁ x′ ∷ ends-at b₂ y′ ∷ lengths-at b₃ z′ ∷ lent Γ) (lands (𝓣 .C) (𝓣 .Λ) E d (T.checked .val v) rest q))
+          → Seq K W (ends-at b₁ x ∷ ends-at b₂ y ∷ lengths-at b₃ z ∷ lent Γ) (runs (𝓣 .C) (𝓣 .Λ) E (seq (call take-in-def.name xs d) rest) q)
       taking t is-h os k =
           let p = places o in
           lends-array-mut t tt N.u16 2048 tt x b₁ (o .is-x) (lit< tt, lit< tt) (λ α γ₁. move t (3 ∷ []) $
           lends-array-mut t tt N.u16 2048 tt y b₂ (o .is-y) (lit< tt, lit< tt) (λ β γ₂. move t (6 ∷ []) $
-          lends-array-mut t tt N.u32 2048 tt z b₃ (o .is-z) (lit< tt, lit< tt) (λ δ γ₃. move t (9 ∷ 6 ∷ 3 ∷ 0 ∷ 10 ∷ 7 ∷ 4 ∷ 1 ∷ []) $
+          lends-array-mut t tt N.u32 2048 tt z b₃ (o .is-z) (lit< tt, lit< tt) (λ δ γ₃. move t (9 ∷ 10 ∷ 11 ∷ 6 ∷ 3 ∷ 0 ∷ 12 ∷ 13 ∷ 14 ∷ 7 ∷ 4 ∷ 1 ∷ []) $
           calls t 𝓣 to-take-in (lfts α β δ) parts (given α β δ γ₁ γ₂ γ₃) tt (is-h, tt) (factI 𝓤 _ _ p) (os α β δ γ₁ γ₂ γ₃)
-          (λ v ws. TakenIn h (now g) v (ws .1 .1 .0) (ws .1 .1 .1 .0) (ws .1 .1 .1 .1 .0)) (λ v ws. id⊢ 𝓤 _) (λ v ws is-v ok-v taken same.
-          -- [κ; α; β; δ; the list; the three last lists; what is lent of z, y, x]
-          move t (1 ∷ 10 ∷ 5 ∷ []) $ array-back-mut t tt N.u16 2048 (ws .1 .1 .0) b₁ (same .0 ∙ p .a-places) (λ is-x.
-          move t (2 ∷ 8 ∷ 5 ∷ []) $ array-back-mut t tt N.u16 2048 (ws .1 .1 .1 .0) b₂ (same .1 .0 ∙ p .b-places) (λ is-y.
-          move t (3 ∷ 6 ∷ 5 ∷ []) $ array-back-mut t tt N.u32 2048 (ws .1 .1 .1 .1 .0) b₃ (same .1 .1 .0 ∙ p .lengths-places) (λ is-z.
-          move t (2 ∷ 1 ∷ 0 ∷ []) $ k v (ws .1 .1 .0) (ws .1 .1 .1 .0) (ws .1 .1 .1 .1 .0) is-v ok-v (record { is-x = is-x; is-y = is-y; is-z = is-z }) taken)))))))
+          (λ v ws. TakenIn h (now p₀) (now q₀) (now g) v (ws .1 .1 .1 .1 .0) (ws .1 .1 .1 .1 .1 .0) (ws .1 .1 .1 .1 .1 .1 .0)) (λ v ws. id⊢ 𝓤 _) (λ v ws is-v ok-v taken same.
+          -- [κ₁; κ₂; κ₃; α; β; δ; the ratios; the list; the three last lists; what is lent of z, y, x]
+          move t (3 ∷ 14 ∷ 9 ∷ []) $ array-back-mut t tt N.u16 2048 (ws .1 .1 .1 .1 .0) b₁ (same .0 ∙ p .a-places) (λ is-x.
+          move t (4 ∷ 12 ∷ 9 ∷ []) $ array-back-mut t tt N.u16 2048 (ws .1 .1 .1 .1 .1 .0) b₂ (same .1 .0 ∙ p .b-places) (λ is-y.
+          move t (5 ∷ 10 ∷ 9 ∷ []) $ array-back-mut t tt N.u32 2048 (ws .1 .1 .1 .1 .1 .1 .0) b₃ (same .1 .1 .0 ∙ p .lengths-places) (λ is-z.
+          move t (2 ∷ 1 ∷ 0 ∷ []) $ k v (ws .1 .1 .1 .1 .0) (ws .1 .1 .1 .1 .1 .0) (ws .1 .1 .1 .1 .1 .1 .0) is-v ok-v (record { is-x = is-x; is-y = is-y; is-z = is-z }) taken)))))))

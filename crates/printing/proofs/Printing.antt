@@ -7,7 +7,7 @@ use native.Mathlib.Nat.{le-refl}
 use native.Mathlib.Omega.{arith}
 use lib.ListN.{length, drop}
 use Rattle.net.specs.Net.{Net, every, mostPosts}
-use Rattle.net.specs.Building.{BuildAnswer, built, lightestOf, shortestOf, betweenOf, walkOf, treeOf, buildRefusal, buildAnswer, buildOf, listAfter, afterBuild}
+use Rattle.net.specs.Building.{BuildAnswer, built, pOf, qOf, lightestOf, shortestOf, betweenOf, walkOf, treeOf, buildRefusal, buildAnswer, buildOf, listAfter, afterBuild}
 use Rattle.net.specs.Building as B
 use Rattle.net.specs.declared.Head.{Head}
 use Rattle.net.specs.declared.Measured.{Measured}
@@ -30,26 +30,26 @@ pub put-same : {t u : List ℕ} {at : ℕ} {l x : List ℕ} {r : ℕ} → Put t 
 put-same {t} {u} {at} {l} {x} {r} p e = subst (λ v. Put v at l x r) e p
 
 -- A NET that building takes: the front of the lists is its trees, and what stands behind is not printed
-module _ (n : Net) (taken : buildRefusal every n (length (n .segments)) lists ≡ none) where
+module _ (n : Net) (taken : buildRefusal every n (length (n .segments)) mostPosts lists ≡ none) where
   few : length (n .segments) ≤ length (n .segments)
   few = le-refl (length (n .segments))
 
   pub few-posts : n .head .posts ≤ mostPosts
-  few-posts = (accepted every (length (n .segments)) n lists .0 taken) .0 .head-sound .posts-sound .few-posts
+  few-posts = (accepted every (length (n .segments)) n mostPosts lists .0 taken) .0 .head-sound .posts-sound .few-posts
 
   third-each : length (betweenOf every n) ≡ n .head .posts
   unfolding betweenOf walkOf
   third-each =
-      let a = accepted every (length (n .segments)) n lists .0 taken in
-      (between-tree every (length (n .segments)) n few (a .0) (a .2) (λ _. n .head .p) (λ _. n .head .q)) .one-each
+      let a = accepted every (length (n .segments)) n mostPosts lists .0 taken in
+      (between-tree every (length (n .segments)) n few (a .0) (a .3) (pOf n) (qOf n)) .one-each
 
   front-lines : (u v w : List ℕ)
       → programText (n .head) (length (n .segments)) (buildAnswer every n none) (lightestOf every n ++ u) (shortestOf every n ++ v) (betweenOf every n ++ w)
       ≡ programText (n .head) (length (n .segments)) (buildAnswer every n none) (lightestOf every n) (shortestOf every n) (betweenOf every n)
   front-lines u v w =
-      let a = accepted every (length (n .segments)) n lists .0 taken in
-      let l = (lightest-tree every (length (n .segments)) n few (a .0) (a .2)) .one-each in
-      let s = (shortest-tree every (length (n .segments)) n few (a .0) (a .2)) .one-each in
+      let a = accepted every (length (n .segments)) n mostPosts lists .0 taken in
+      let l = (lightest-tree every (length (n .segments)) n few (a .0) (a .3)) .one-each in
+      let s = (shortest-tree every (length (n .segments)) n few (a .0) (a .3)) .one-each in
       let b = third-each in
       text-front (n .head) (length (n .segments)) (buildAnswer every n none) (lightestOf every n) (shortestOf every n) (betweenOf every n) u v w (omega arith) (omega arith) (omega arith)
 
@@ -64,7 +64,7 @@ module _ (l s w : List ℕ) (el : length l ≡ mostPosts) (es : length s ≡ mos
 
   module _ {h : Head} {m : ℕ} {x y z : Measured} {k : ℕ} {l′ s′ w′ : List ℕ} where
     -- of a net that was read, which nothing refuses
-    of-net : (n : Net) (o : Option Refusal) → buildRefusal every n (length (n .segments)) lists ≡ o
+    of-net : (n : Net) (o : Option Refusal) → buildRefusal every n (length (n .segments)) mostPosts lists ≡ o
         → Planned h m x y z k ≡ plannedWith (n .head) (length (n .segments)) (buildAnswer every n o)
         → l′ ≡ listAfter every n o Lightest l → s′ ≡ listAfter every n o Shortest s → w′ ≡ listAfter every n o Between w
         → (h .posts ≤ mostPosts) × (linesOf h m x y z k l′ s′ w′ ≡ linesFor (got n 0))
@@ -82,7 +82,7 @@ module _ (l s w : List ℕ) (el : length l ≡ mostPosts) (es : length s ≡ mos
     of-read : (g : Got Net) → Planned h m x y z k ≡ planOf g lists → l′ ≡ treeList g lists Lightest l → s′ ≡ treeList g lists Shortest s → w′ ≡ treeList g lists Between w
         → (h .posts ≤ mostPosts) × (linesOf h m x y z k l′ s′ w′ ≡ linesFor g)
     unfolding buildOf afterBuild
-    of-read (got n next) f a b c = of-net n (buildRefusal every n (length (n .segments)) lists) refl f a b c
+    of-read (got n next) f a b c = of-net n (buildRefusal every n (length (n .segments)) mostPosts lists) refl f a b c
     of-read (refused r) f a b c = absurd (let q : _≡_ {A = ℕ} 0 1 = cc in omega arith)
 
     -- its lines are what is printed for the record
@@ -101,7 +101,7 @@ module _ (l s w : List ℕ) (el : length l ≡ mostPosts) (es : length s ≡ mos
   refused-by n (B.BuildAnswer.refused r) f = cc f
 
   refused-read : {q : Refusal} (g : Got Net) → Refused q ≡ planOf g lists → refusedLine (q .number) (q .place) ≡ linesFor g
-  refused-read (got n next) f = refused-by n (buildOf every n (length (n .segments)) lists) f
+  refused-read (got n next) f = refused-by n (buildOf every n (length (n .segments)) mostPosts lists) f
   refused-read (refused r) f = cc f
 
   pub refused-lines : (bytes : List ℕ) {r : PlanAnswer} {l′ s′ w′ : List ℕ} {q : Refusal} → Plans bytes l s w r l′ s′ w′ → r ≡ Refused q

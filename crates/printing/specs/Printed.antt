@@ -22,8 +22,9 @@ lists = record { lightest = mostPosts; shortest = mostPosts; between = mostPosts
 
 -- the lines of a net, or of reading's refusal
 abbrev pub linesFor : Got Net → List ℕ
-linesFor (got n next) = programText (n .head) (length (n .segments)) (buildOf every n (length (n .segments)) lists)
-    (lightestOf every n) (shortestOf every n) (betweenOf every n)
+linesFor (got n next) = programText (n .head) (length (n .segments))
+    (buildOf every n (length (n .segments)) mostPosts lists) (lightestOf every n) (shortestOf every n)
+    (betweenOf every n)
 linesFor (refused r) = refusedLine (r .number) (r .place)
 
 -- what is printed for these bytes

@@ -1,5 +1,5 @@
-// The program: reads one record from standard input and prints the trees, or the one line of a refusal. Thin over
-// `printing`, which says how much is read and what is printed.
+// The program: reads one record, of either form, from standard input and prints the trees, or the one line of a
+// refusal. Thin over `printing`, which says how much is read and what is printed.
 use libc::STDIN_FILENO;
 use libc::STDOUT_FILENO;
 use printing::ENOUGH_BYTES;

@@ -7,7 +7,7 @@ use native.Mathlib.Omega.{arith}
 use contract.Monad.{fact-mono}
 use lib.IntN.{ℤ}
 use lib.ListN.{length}
-use Rattle.net.specs.Net.{Net, every, segmentsOf}
+use Rattle.net.specs.Net.{Ratio, Net, every, mostPosts, ratiosOf, segmentsOf}
 use Rattle.net.specs.Refusals.{saysOf as checkSays}
 use Rattle.net.specs.Building.{buildRefusal, buildAnswer, buildOf, listAfter, afterBuild, marginRefusal, marginAnswer, marginOf}
 use Rattle.net.specs.Building as B
@@ -28,7 +28,7 @@ use Rattle.margins.proofs.Unique.{margin-answer-says}
 use Rattle.numbers.specs.Numbers.{Got, got, refused}
 use Rattle.reading.specs.Reading.{netRead}
 use Rattle.writing.specs.Writing.{netWritten, writeRefusal, afterWriting, roomAfter}
-use Rattle.reading.specs.Answers.{saysBy, checkRead, ReadsLists}
+use Rattle.reading.specs.Answers.{readAnswer, saysBy, checkRead, ratiosRead, ReadsLists}
 use Rattle.reading.specs.Answers.{listRead as numbersRead}
 use Rattle.reading.specs.declared.ReadAnswer.{ReadAnswer}
 use Rattle.writing.specs.Answers.{refusal-of, writeAnswerBy, writeAnswerOf, saysWritten, Writes}
@@ -36,7 +36,7 @@ use Rattle.writing.specs.declared.WriteAnswer.{WriteAnswer}
 use Rattle.writing.specs.declared.WriteAnswer.the-variants.{Written, Refused as Unput}
 use Rattle.reading.proofs.Ruled.{read-answers, read-only}
 use Rattle.writing.proofs.RuledWriting.{write-answers, write-only}
-use Rattle.on_segments.specs.Reading.{readAnswer, listRead, Reads}
+use Rattle.on_segments.specs.Reading.{listRead, Reads}
 use Rattle.on_records.specs.Asked.{recordRead, plannedWith, planOf, treeList, Plans, rewriteOf, roomOf, Rewrites, marginSaid, marginRead}
 use Rattle.on_records.specs.Says.{saysPlanned}
 use Rattle.on_records.specs.declared.PlanAnswer.{PlanAnswer}
@@ -56,82 +56,95 @@ use Rattle.drawn.specs.declared.Answer.the-variants.{Length, Refused as Undrawn
 use Rattle.drawn.proofs.Rules.{drawn-only, outcome-answers, outcome-only}
 use Rattle.promises.specs.Demand1.{Refuses, RefusesInNumber, BuildRefuses, MarginRefuses, ReadRefuses, WriteRefuses, CheckRefuses, OnRecord, by-reading, by-net, Unplanned, Unwritten, Unmeasured, Demand1}
 
-module _ (n : Net) (m : ℕ) (l s w : List ℕ) where
-  kept : (r : Refusal) → buildRefusal every n m (lentOf l s w) ≡ some r → (t : Tree) (before now : List ℕ) → now ≡ afterBuild every n m (lentOf l s w) t before → now ≡ before
+module _ (n : Net) (m k : ℕ) (l s w : List ℕ) where
+  kept : (r : Refusal) → buildRefusal every n m k (lentOf l s w) ≡ some r → (t : Tree) (before now : List ℕ) → now ≡ afterBuild every n m k (lentOf l s w) t before → now ≡ before
   unfolding afterBuild listAfter
-  kept r e t before now k = k ∙ ap (λ x. listAfter every n x t before) e
+  kept r e t before now i = i ∙ ap (λ x. listAfter every n x t before) e
 
-  pub build-refuses : {a : Answer} {l′ s′ w′ : List ℕ} → Leaves n m l s w a l′ s′ w′ → BuildRefuses n m l s w a l′ s′ w′
-  build-refuses {a} k =
+  pub build-refuses : {a : Answer} {l′ s′ w′ : List ℕ} → Leaves n m k l s w a l′ s′ w′ → BuildRefuses n m k l s w a l′ s′ w′
+  build-refuses {a} left =
       record {
         refuses = λ r e. (
-          ap saysOf (refused-exactly n m (lentOf l s w) (k .answer) r .1 e),
-          (kept r e _ _ _ (k .lightest), kept r e _ _ _ (k .shortest), kept r e _ _ _ (k .between)),
+          ap saysOf (refused-exactly n m k (lentOf l s w) (left .answer) r .1 e),
+          (kept r e _ _ _ (left .lightest), kept r e _ _ _ (left .shortest), kept r e _ _ _ (left .between)),
         );
-        only-then = λ r e. refused-exactly n m (lentOf l s w) (k .answer) r .0 (sym (answer-says a) ∙ ap answerOf e);
+        only-then = λ r e. refused-exactly n m k (lentOf l s w) (left .answer) r .0 (sym (answer-says a) ∙ ap answerOf e);
       }
 
-module _ (n : Net) (m : ℕ) (t : Tree) (post : ℕ) where
+module _ (n : Net) (m k : ℕ) (t : Tree) (post : ℕ) where
   margin-held : {r : Refusal} (o : Option Refusal) → marginAnswerOf (marginAnswer every n o t post) ≡ Unmeasured′ r → o ≡ some r
   unfolding marginAnswer
-  margin-held none e = absurd (let k : _≡_ {A = ℕ} 0 1 = cc in omega arith)
+  margin-held none e = absurd (let z : _≡_ {A = ℕ} 0 1 = cc in omega arith)
   margin-held (some s) e = cc
 
-  refused-margin : {a : MarginAnswer} → a ≡ marginAnswerOf (marginOf every n m t post) → (r : Refusal) → marginRefusal every n m post ≡ some r
+  refused-margin : {a : MarginAnswer} → a ≡ marginAnswerOf (marginOf every n m k t post) → (r : Refusal) → marginRefusal every n m k post ≡ some r
       → marginSaysOf a ≡ B.MarginAnswer.refused r
   unfolding marginOf marginAnswer
-  refused-margin k r e = ap marginSaysOf (k ∙ ap (λ x. marginAnswerOf (marginAnswer every n x t post)) e)
+  refused-margin i r e = ap marginSaysOf (i ∙ ap (λ x. marginAnswerOf (marginAnswer every n x t post)) e)
 
-  margin-refused : {a : MarginAnswer} → a ≡ marginAnswerOf (marginOf every n m t post) → (r : Refusal) → marginSaysOf a ≡ B.MarginAnswer.refused r
-      → marginRefusal every n m post ≡ some r
+  margin-refused : {a : MarginAnswer} → a ≡ marginAnswerOf (marginOf every n m k t post) → (r : Refusal) → marginSaysOf a ≡ B.MarginAnswer.refused r
+      → marginRefusal every n m k post ≡ some r
   unfolding marginOf
-  margin-refused {a} k r e = margin-held (marginRefusal every n m post) (sym k ∙ sym (margin-answer-says a) ∙ ap marginAnswerOf e)
+  margin-refused {a} i r e = margin-held (marginRefusal every n m k post) (sym i ∙ sym (margin-answer-says a) ∙ ap marginAnswerOf e)
 
-  pub margin-refuses : {a : MarginAnswer} → a ≡ marginAnswerOf (marginOf every n m t post) → MarginRefuses n m post a
-  margin-refuses k = record { refuses = λ r e. (refused-margin k r e, tt); only-then = margin-refused k }
+  pub margin-refuses : {a : MarginAnswer} → a ≡ marginAnswerOf (marginOf every n m k t post) → MarginRefuses n m k post a
+  margin-refuses i = record { refuses = λ r e. (refused-margin i r e, tt); only-then = margin-refused i }
 
-read-held : {r : Refusal} (g : Got Net) (ss : List Segment) → saysBy (readAnswer g) ss ≡ refusal-of r → g ≡ refused r
-read-held (got n next) ss e = absurd (let k : _≡_ {A = ℕ} 0 1 = cc in omega arith)
-read-held (refused s) ss e = cc
+read-held : {r : Refusal} (g : Got Net) (rs : List Ratio) (ss : List Segment) → saysBy (readAnswer g) rs ss ≡ refusal-of r → g ≡ refused r
+read-held (got n next) rs ss e = absurd (let k : _≡_ {A = ℕ} 0 1 = cc in omega arith)
+read-held (refused s) rs ss e = cc
 
 -- what reading answers is its refusal exactly where it refuses
-module _ (bytes : List ℕ) (room : ℕ) {a : ReadAnswer} (is : a ≡ readAnswer (netRead bytes room 0)) (ss : List Segment) where
-  read-says : (r : Refusal) → netRead bytes room 0 ≡ refused r → saysBy a ss ≡ refusal-of r
-  read-says r e = ap (λ b. saysBy b ss) (is ∙ ap readAnswer e)
+module _ (bytes : List ℕ) (room ratioRoom : ℕ) {a : ReadAnswer} (is : a ≡ readAnswer (netRead bytes room ratioRoom 0)) (rs : List Ratio) (ss : List Segment) where
+  read-says : (r : Refusal) → netRead bytes room ratioRoom 0 ≡ refused r → saysBy a rs ss ≡ refusal-of r
+  read-says r e = ap (λ b. saysBy b rs ss) (is ∙ ap readAnswer e)
 
-  read-only-then : (r : Refusal) → saysBy a ss ≡ refusal-of r → netRead bytes room 0 ≡ refused r
-  read-only-then r e = read-held (netRead bytes room 0) ss (ap (λ b. saysBy b ss) (sym is) ∙ e)
+  read-only-then : (r : Refusal) → saysBy a rs ss ≡ refusal-of r → netRead bytes room ratioRoom 0 ≡ refused r
+  read-only-then r e = read-held (netRead bytes room ratioRoom 0) rs ss (ap (λ b. saysBy b rs ss) (sym is) ∙ e)
 
-pub read-refuses : (bytes : List ℕ) (l : List Segment) {l′ : List Segment} {a : ReadAnswer} → Reads bytes l a l′ → ReadRefuses bytes (length l) a l′ (l′ ≡ l)
-read-refuses bytes l {l′} k =
-    record { refuses = λ r e. (read-says bytes (length l) (k .0) l′ r e, k .1 ∙ ap (λ g. listRead g l) e); only-then = read-only-then bytes (length l) (k .0) l′ }
-
-pub read-lists-refuses : {bytes x y z x′ y′ z′ : List ℕ} {a : ReadAnswer} → ReadsLists bytes x y z a x′ y′ z′
-    → ReadRefuses bytes (length (segmentsOf x y z)) a (segmentsOf x′ y′ z′) ((x′ ≡ x) × (y′ ≡ y) × (z′ ≡ z))
-read-lists-refuses {bytes} {x} {y} {z} {x′} {y′} {z′} k =
+pub read-refuses : (bytes p q : List ℕ) (l : List Segment) {p′ q′ : List ℕ} {l′ : List Segment} {a : ReadAnswer} → Reads bytes p q l a p′ q′ l′
+    → ReadRefuses bytes (length l) (length (ratiosOf p q)) a (ratiosOf p′ q′) l′ ((p′ ≡ p) × (q′ ≡ q) × (l′ ≡ l))
+read-refuses bytes p q l {p′} {q′} {l′} k =
     record {
       refuses = λ r e. (
-        read-says bytes (length (segmentsOf x y z)) (k .answers) (segmentsOf x′ y′ z′) r e,
-        (k .a-is ∙ ap (λ g. numbersRead (λ v. v .a) g x) e, k .b-is ∙ ap (λ g. numbersRead (λ v. v .b) g y) e, k .lengths-are ∙ ap (λ g. numbersRead (λ v. v .length) g z) e),
+        read-says bytes (length l) (length (ratiosOf p q)) (k .answers) (ratiosOf p′ q′) l′ r e,
+        (k .p-is ∙ ap (λ g. ratiosRead (λ o. o .p) g p) e, k .q-is ∙ ap (λ g. ratiosRead (λ o. o .q) g q) e, k .list-is ∙ ap (λ g. listRead g l) e),
       );
-      only-then = read-only-then bytes (length (segmentsOf x y z)) (k .answers) (segmentsOf x′ y′ z′);
+      only-then = read-only-then bytes (length l) (length (ratiosOf p q)) (k .answers) (ratiosOf p′ q′) l′;
     }
 
-module _ (n : Net) (m : ℕ) (room : List ℕ) where
+pub read-lists-refuses : {bytes p q x y z p′ q′ x′ y′ z′ : List ℕ} {a : ReadAnswer} → ReadsLists bytes p q x y z a p′ q′ x′ y′ z′
+    → ReadRefuses bytes (length (segmentsOf x y z)) (length (ratiosOf p q)) a (ratiosOf p′ q′) (segmentsOf x′ y′ z′) ((p′ ≡ p) × (q′ ≡ q) × (x′ ≡ x) × (y′ ≡ y) × (z′ ≡ z))
+read-lists-refuses {bytes} {p} {q} {x} {y} {z} {p′} {q′} {x′} {y′} {z′} k =
+    record {
+      refuses = λ r e. (
+        read-says bytes (length (segmentsOf x y z)) (length (ratiosOf p q)) (k .answers) (ratiosOf p′ q′) (segmentsOf x′ y′ z′) r e,
+        (
+          k .p-is ∙ ap (λ g. ratiosRead (λ o. o .p) g p) e,
+          k .q-is ∙ ap (λ g. ratiosRead (λ o. o .q) g q) e,
+          k .a-is ∙ ap (λ g. numbersRead (λ v. v .a) g x) e,
+          k .b-is ∙ ap (λ g. numbersRead (λ v. v .b) g y) e,
+          k .lengths-are ∙ ap (λ g. numbersRead (λ v. v .length) g z) e,
+        ),
+      );
+      only-then = read-only-then bytes (length (segmentsOf x y z)) (length (ratiosOf p q)) (k .answers) (ratiosOf p′ q′) (segmentsOf x′ y′ z′);
+    }
+
+module _ (n : Net) (m k : ℕ) (room : List ℕ) where
   write-held : {r : Refusal} (o : Option Refusal) → saysWritten (writeAnswerBy o (length (netWritten n))) ≡ refusal-of r → o ≡ some r
-  write-held none e = absurd (let k : _≡_ {A = ℕ} 0 1 = cc in omega arith)
+  write-held none e = absurd (let z : _≡_ {A = ℕ} 0 1 = cc in omega arith)
   write-held (some s) e = cc
 
-  refused-write : {a : WriteAnswer} {x : List ℕ} → Writes n m room a x → (r : Refusal) → writeRefusal n m (length room) ≡ some r → (saysWritten a ≡ refusal-of r) × (x ≡ room)
+  refused-write : {a : WriteAnswer} {x : List ℕ} → Writes n m k room a x → (r : Refusal) → writeRefusal n m k (length room) ≡ some r → (saysWritten a ≡ refusal-of r) × (x ≡ room)
   unfolding writeAnswerOf roomAfter
-  refused-write k r e = (ap saysWritten (k .answers ∙ ap (λ o. writeAnswerBy o (length (netWritten n))) e), k .leaves ∙ ap (λ o. afterWriting o n room) e)
+  refused-write w r e = (ap saysWritten (w .answers ∙ ap (λ o. writeAnswerBy o (length (netWritten n))) e), w .leaves ∙ ap (λ o. afterWriting o n room) e)
 
-  write-refused : {a : WriteAnswer} {x : List ℕ} → Writes n m room a x → (r : Refusal) → saysWritten a ≡ refusal-of r → writeRefusal n m (length room) ≡ some r
+  write-refused : {a : WriteAnswer} {x : List ℕ} → Writes n m k room a x → (r : Refusal) → saysWritten a ≡ refusal-of r → writeRefusal n m k (length room) ≡ some r
   unfolding writeAnswerOf
-  write-refused k r e = write-held (writeRefusal n m (length room)) (ap saysWritten (sym (k .answers)) ∙ e)
+  write-refused w r e = write-held (writeRefusal n m k (length room)) (ap saysWritten (sym (w .answers)) ∙ e)
 
-  pub write-refuses : {a : WriteAnswer} {x : List ℕ} → Writes n m room a x → WriteRefuses n m room a x
-  write-refuses k = record { refuses = refused-write k; only-then = write-refused k }
+  pub write-refuses : {a : WriteAnswer} {x : List ℕ} → Writes n m k room a x → WriteRefuses n m k room a x
+  write-refuses w = record { refuses = refused-write w; only-then = write-refused w }
 
 module _ (bytes l s w : List ℕ) where
   unread-plan : {a : PlanAnswer} {l′ s′ w′ : List ℕ} → Plans bytes l s w a l′ s′ w′
@@ -144,17 +157,17 @@ module _ (bytes l s w : List ℕ) where
   )
 
   unbuilt-plan : {a : PlanAnswer} {l′ s′ w′ : List ℕ} → Plans bytes l s w a l′ s′ w′ → (n : Net) (next : ℕ) → recordRead bytes ≡ got n next
-      → (r : Refusal) → buildRefusal every n (length (n .segments)) (lentOf l s w) ≡ some r → (saysPlanned a ≡ refusal-of r) × (l′ ≡ l) × (s′ ≡ s) × (w′ ≡ w)
+      → (r : Refusal) → buildRefusal every n (length (n .segments)) mostPosts (lentOf l s w) ≡ some r → (saysPlanned a ≡ refusal-of r) × (l′ ≡ l) × (s′ ≡ s) × (w′ ≡ w)
   unfolding buildOf buildAnswer
   unbuilt-plan k n next i r e = (
     ap saysPlanned (k .answer ∙ ap (λ g. planOf g (lentOf l s w)) i ∙ ap (λ o. plannedWith (n .head) (length (n .segments)) (buildAnswer every n o)) e),
-    kept n (length (n .segments)) l s w r e Lightest l _ (k .lightest ∙ ap (λ g. treeList g (lentOf l s w) Lightest l) i),
-    kept n (length (n .segments)) l s w r e Shortest s _ (k .shortest ∙ ap (λ g. treeList g (lentOf l s w) Shortest s) i),
-    kept n (length (n .segments)) l s w r e Between w _ (k .between ∙ ap (λ g. treeList g (lentOf l s w) Between w) i),
+    kept n (length (n .segments)) mostPosts l s w r e Lightest l _ (k .lightest ∙ ap (λ g. treeList g (lentOf l s w) Lightest l) i),
+    kept n (length (n .segments)) mostPosts l s w r e Shortest s _ (k .shortest ∙ ap (λ g. treeList g (lentOf l s w) Shortest s) i),
+    kept n (length (n .segments)) mostPosts l s w r e Between w _ (k .between ∙ ap (λ g. treeList g (lentOf l s w) Between w) i),
   )
 
   refused-plan : {a : PlanAnswer} {l′ s′ w′ : List ℕ} → Plans bytes l s w a l′ s′ w′ → (r : Refusal)
-      → OnRecord bytes (λ n. buildRefusal every n (length (n .segments)) (lentOf l s w)) r → (saysPlanned a ≡ refusal-of r) × (l′ ≡ l) × (s′ ≡ s) × (w′ ≡ w)
+      → OnRecord bytes (λ n. buildRefusal every n (length (n .segments)) mostPosts (lentOf l s w)) r → (saysPlanned a ≡ refusal-of r) × (l′ ≡ l) × (s′ ≡ s) × (w′ ≡ w)
   refused-plan k r (by-reading e) = unread-plan k r e
   refused-plan k r (by-net n next i e) = unbuilt-plan k n next i r e
 
@@ -164,9 +177,9 @@ module _ (bytes l s w : List ℕ) where
   built-held n (some x) e = cc
 
   plan-held : {r : Refusal} (g : Got Net) → recordRead bytes ≡ g → saysPlanned (planOf g (lentOf l s w)) ≡ refusal-of r
-      → OnRecord bytes (λ n. buildRefusal every n (length (n .segments)) (lentOf l s w)) r
+      → OnRecord bytes (λ n. buildRefusal every n (length (n .segments)) mostPosts (lentOf l s w)) r
   unfolding buildOf
-  plan-held (got n next) i e = by-net n next i (built-held n (buildRefusal every n (length (n .segments)) (lentOf l s w)) e)
+  plan-held (got n next) i e = by-net n next i (built-held n (buildRefusal every n (length (n .segments)) mostPosts (lentOf l s w)) e)
   plan-held {r} (refused x) i e = by-reading (i ∙ (let k : _≡_ {A = Got Net} (refused x) (refused r) = cc in k))
 
   pub plan-refuses : {a : PlanAnswer} {l′ s′ w′ : List ℕ} → Plans bytes l s w a l′ s′ w′
@@ -179,32 +192,32 @@ module _ (bytes l s w : List ℕ) where
 
 module _ (bytes room : List ℕ) where
   refused-rewrite : {a : WriteAnswer} {x : List ℕ} → Rewrites bytes room a x → (r : Refusal)
-      → OnRecord bytes (λ n. writeRefusal n (length (n .segments)) (length room)) r → (saysWritten a ≡ refusal-of r) × (x ≡ room)
+      → OnRecord bytes (λ n. writeRefusal n (length (n .segments)) mostPosts (length room)) r → (saysWritten a ≡ refusal-of r) × (x ≡ room)
   refused-rewrite k r (by-reading e) = (ap saysWritten (k .answers ∙ ap (λ g. rewriteOf g (length room)) e), k .leaves ∙ ap (λ g. roomOf g room) e)
   refused-rewrite k r (by-net n next i e) =
-      refused-write n (length (n .segments)) room
+      refused-write n (length (n .segments)) mostPosts room
       (record { answers = k .answers ∙ ap (λ g. rewriteOf g (length room)) i; leaves = k .leaves ∙ ap (λ g. roomOf g room) i })
       r
       e
 
   rewrite-held : {r : Refusal} (g : Got Net) → recordRead bytes ≡ g → saysWritten (rewriteOf g (length room)) ≡ refusal-of r
-      → OnRecord bytes (λ n. writeRefusal n (length (n .segments)) (length room)) r
+      → OnRecord bytes (λ n. writeRefusal n (length (n .segments)) mostPosts (length room)) r
   unfolding writeAnswerOf
-  rewrite-held (got n next) i e = by-net n next i (write-held n (length (n .segments)) room (writeRefusal n (length (n .segments)) (length room)) e)
+  rewrite-held (got n next) i e = by-net n next i (write-held n (length (n .segments)) mostPosts room (writeRefusal n (length (n .segments)) mostPosts (length room)) e)
   rewrite-held {r} (refused x) i e = by-reading (i ∙ (let k : _≡_ {A = Got Net} (refused x) (refused r) = cc in k))
 
   pub rewrite-refuses : {a : WriteAnswer} {x : List ℕ} → Rewrites bytes room a x → Refuses (Unwritten bytes (length room)) (λ r. saysWritten a ≡ refusal-of r) (x ≡ room)
   rewrite-refuses k = record { refuses = refused-rewrite k; only-then = λ r e. rewrite-held (recordRead bytes) refl (ap saysWritten (sym (k .answers)) ∙ e) }
 
 module _ (bytes : List ℕ) (t : Tree) (post : ℕ) where
-  refused-record-margin : {a : MarginAnswer} → a ≡ marginRead bytes t post → (r : Refusal) → OnRecord bytes (λ n. marginRefusal every n (length (n .segments)) post) r
+  refused-record-margin : {a : MarginAnswer} → a ≡ marginRead bytes t post → (r : Refusal) → OnRecord bytes (λ n. marginRefusal every n (length (n .segments)) mostPosts post) r
       → marginSaysOf a ≡ B.MarginAnswer.refused r
   refused-record-margin k r (by-reading e) = ap marginSaysOf (k ∙ ap (λ g. marginAnswerOf (marginSaid g t post)) e)
-  refused-record-margin k r (by-net n next i e) = refused-margin n (length (n .segments)) t post (k ∙ ap (λ g. marginAnswerOf (marginSaid g t post)) i) r e
+  refused-record-margin k r (by-net n next i e) = refused-margin n (length (n .segments)) mostPosts t post (k ∙ ap (λ g. marginAnswerOf (marginSaid g t post)) i) r e
 
   record-margin-held : {r : Refusal} (g : Got Net) → recordRead bytes ≡ g → marginSaysOf (marginAnswerOf (marginSaid g t post)) ≡ B.MarginAnswer.refused r
-      → OnRecord bytes (λ n. marginRefusal every n (length (n .segments)) post) r
-  record-margin-held {r} (got n next) i e = by-net n next i (margin-refused n (length (n .segments)) t post refl r e)
+      → OnRecord bytes (λ n. marginRefusal every n (length (n .segments)) mostPosts post) r
+  record-margin-held {r} (got n next) i e = by-net n next i (margin-refused n (length (n .segments)) mostPosts t post refl r e)
   record-margin-held {r} (refused x) i e = by-reading (i ∙ (let k : _≡_ {A = Got Net} (refused x) (refused r) = cc in k))
 
   pub record-margin-refuses : {a : MarginAnswer} → a ≡ marginRead bytes t post → Refuses (Unmeasured bytes post) (λ r. marginSaysOf a ≡ B.MarginAnswer.refused r) Unit
@@ -278,7 +291,7 @@ c-rewrite-refuses bytes room {x = x} k =
     record {
       refuses = λ r u. (let z = refused-rewrite bytes room p r u in (k .number ∙ write-number (rewriteOf (recordRead bytes) (length room)) r (z .0), z .1));
       otherwise = λ h n next i. (
-          k .number ∙ ap (λ g. writeNumber (rewriteOf g (length room))) i ∙ write-size (writeRefusal n (length (n .segments)) (length room)) (length (netWritten n)) (λ r e. h r (by-net n next i e))
+          k .number ∙ ap (λ g. writeNumber (rewriteOf g (length room))) i ∙ write-size (writeRefusal n (length (n .segments)) mostPosts (length room)) (length (netWritten n)) (λ r e. h r (by-net n next i e))
           );
     }
 
@@ -302,24 +315,24 @@ c-drawn-refuses run e =
 pub demand-1 : Demand1
 demand-1 =
     record {
-      build-rules = λ n m lent.
+      build-rules = λ n m k lent.
           record {
-            by-the-rules = build-answers every m n lent;
-            no-other = λ r. build-only every m n lent;
-            nine = nine-exactly every m n lent;
-            not-joined = not-joined-exactly every m n lent;
+            by-the-rules = build-answers every m n k lent;
+            no-other = λ r. build-only every m n k lent;
+            nine = nine-exactly every m n k lent;
+            not-joined = not-joined-exactly every m n k lent;
           };
-      margin-rules = λ n m post. record { by-the-rules = margin-answers every m n post; no-other = λ r. margin-only every m n post };
-      read-rules = λ bytes room. record { by-the-rules = λ all. read-answers bytes all room; no-other = λ g. read-only bytes };
-      write-rules = λ n m room. record { by-the-rules = write-answers m n room; no-other = λ r. write-only m n room };
-      build = λ w κs x g r e. fact-mono (w .𝓤) _ _ (build-refuses _ _ _ _ _);
-      margin = λ w κs x g r e. fact-mono (w .𝓤) _ _ (margin-refuses _ _ _ _);
-      read = λ w κs x g r e. fact-mono (w .𝓤) _ _ (read-refuses _ _);
-      write = λ w κs x g r e. fact-mono (w .𝓤) _ _ (write-refuses _ _ _);
-      build-lists = λ w κs x g r e. fact-mono (w .𝓤) _ _ (build-refuses _ _ _ _ _);
-      margin-lists = λ w κs x g r e. fact-mono (w .𝓤) _ _ (margin-refuses _ _ _ _);
+      margin-rules = λ n m k post. record { by-the-rules = margin-answers every m n k post; no-other = λ r. margin-only every m n k post };
+      read-rules = λ bytes room ratioRoom. record { by-the-rules = λ all. read-answers bytes all room ratioRoom; no-other = λ g. read-only bytes };
+      write-rules = λ n m k room. record { by-the-rules = write-answers m n k room; no-other = λ r. write-only m n k room };
+      build = λ w κs x g r e. fact-mono (w .𝓤) _ _ (build-refuses _ _ _ _ _ _);
+      margin = λ w κs x g r e. fact-mono (w .𝓤) _ _ (margin-refuses _ _ _ _ _);
+      read = λ w κs x g r e. fact-mono (w .𝓤) _ _ (read-refuses _ _ _ _);
+      write = λ w κs x g r e. fact-mono (w .𝓤) _ _ (write-refuses _ _ _ _);
+      build-lists = λ w κs x g r e. fact-mono (w .𝓤) _ _ (build-refuses _ _ _ _ _ _);
+      margin-lists = λ w κs x g r e. fact-mono (w .𝓤) _ _ (margin-refuses _ _ _ _ _);
       read-lists = λ w κs x g r e. fact-mono (w .𝓤) _ _ read-lists-refuses;
-      write-lists = λ w κs x g r e. fact-mono (w .𝓤) _ _ (write-refuses _ _ _);
+      write-lists = λ w κs x g r e. fact-mono (w .𝓤) _ _ (write-refuses _ _ _ _);
       check-record = λ w κs x g r e. fact-mono (w .𝓤) _ _ (check-refuses _);
       plan = λ w κs x g r e. fact-mono (w .𝓤) _ _ (plan-refuses _ _ _ _);
       rewrite = λ w κs x g r e. fact-mono (w .𝓤) _ _ (rewrite-refuses _ _);

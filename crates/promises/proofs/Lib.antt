@@ -1,6 +1,8 @@
 -- That it holds: a theorem for each file of specs/.
 pub mod Taken
 pub mod Demand1
+pub mod Records
+pub mod Ratios
 pub mod Demand2
 pub mod Demand3
 pub mod Worked

@@ -34,6 +34,8 @@ tied =
       reader-moved = record { asks-nothing = λ w κs x g. id⊢ (w .𝓤) _; says = λ w κs x g r e. id⊢ (w .𝓤) _ };
       reader-behind = record { asks-nothing = λ w κs x g. id⊢ (w .𝓤) _; says = λ w κs x g r e. id⊢ (w .𝓤) _ };
       check-head = record { asks-nothing = λ w κs x g. id⊢ (w .𝓤) _; says = λ w κs x g r e. id⊢ (w .𝓤) _ };
+      check-ratio = record { asks-nothing = λ w κs x g. id⊢ (w .𝓤) _; says = λ w κs x g r e. id⊢ (w .𝓤) _ };
+      check-own = record { asks-nothing = λ w κs x g. id⊢ (w .𝓤) _; says = λ w κs x g r e. id⊢ (w .𝓤) _ };
       check-numbers = record { asks-nothing = λ w κs x g. id⊢ (w .𝓤) _; says = λ w κs x g r e. id⊢ (w .𝓤) _ };
       check-segment = record { asks-nothing = λ w κs x g. id⊢ (w .𝓤) _; says = λ w κs x g r e. id⊢ (w .𝓤) _ };
       check = record { asks-nothing = λ w κs x g. id⊢ (w .𝓤) _; says = λ w κs x g r e. id⊢ (w .𝓤) _ };

@@ -24,10 +24,10 @@ same {e = e} p k = (p ∙ sym k, λ i. e)
 pub unique : Unique
 unique =
     record {
-      build = λ w κs x g r q e o. both w (λ p k. let z = build-one _ _ _ _ _ p k in (z .answers, λ i. (tt, (tt, (z .lightest i, (z .shortest i, (z .between i, tt)))))));
+      build = λ w κs x g r q e o. both w (λ p k. let z = build-one _ _ _ _ _ _ p k in (z .answers, λ i. (tt, (tt, (tt, (tt, (z .lightest i, (z .shortest i, (z .between i, tt)))))))));
       margin = λ w κs x g r q e o. both w same;
-      write = λ w κs x g r q e o. both w (λ p k. let z = write-unique _ _ _ _ _ _ _ p k in (z .0, λ i. (tt, (tt, (z .1 i, tt)))));
-      read = λ w κs x g r q e o. both w (λ p k. (p .0 ∙ sym (k .0), λ i. (tt, ((p .1 ∙ sym (k .1)) i, tt))));
+      write = λ w κs x g r q e o. both w (λ p k. let z = write-unique _ _ _ _ _ _ _ _ p k in (z .0, λ i. (tt, (tt, (tt, (tt, (z .1 i, tt)))))));
+      read = λ w κs x g r q e o. both w (λ p k. (p .answers ∙ sym (k .answers), λ i. (tt, ((p .p-is ∙ sym (k .p-is)) i, ((p .q-is ∙ sym (k .q-is)) i, ((p .list-is ∙ sym (k .list-is)) i, tt))))));
       drawn = λ w κs x g r q e o. both w same;
       plan = λ w κs x g r q e o. both w (λ p k. let z = on-records.plan-one _ _ _ _ p k in (z .answers, λ i. (tt, (z .lightest i, (z .shortest i, (z .between i, tt))))));
       rewrite = λ w κs x g r q e o. both w (λ p k. let z = on-records.rewrite-one _ _ p k in (z .0, λ i. (tt, (z .1 i, tt))));
@@ -39,10 +39,10 @@ unique =
       c-margin = λ w κs x g r q e o. both w (λ p k. let z = c-calls.margin-one _ _ _ _ p k in (z .0, λ i. (tt, (tt, (tt, (z .1 i, tt))))));
       c-drawn = λ w κs x g r q e o. both w same;
       print = λ w κs x g r q e o. both w (λ p k. (p .puts .behind ∙ sym (k .puts .behind), λ i. (tt, (tt, ((p .puts .holds ∙ sym (k .puts .holds)) i, tt)))));
-      build-lists = λ w κs x g r q e o. both w (λ p k. let z = build-one _ _ _ _ _ p k in (z .answers, λ i. (tt, (tt, (tt, (tt, (z .lightest i, (z .shortest i, (z .between i, tt)))))))));
+      build-lists = λ w κs x g r q e o. both w (λ p k. let z = build-one _ _ _ _ _ _ p k in (z .answers, λ i. (tt, (tt, (tt, (tt, (tt, (tt, (z .lightest i, (z .shortest i, (z .between i, tt)))))))))));
       margin-lists = λ w κs x g r q e o. both w same;
-      write-lists = λ w κs x g r q e o. both w (λ p k. let z = write-unique _ _ _ _ _ _ _ p k in (z .0, λ i. (tt, (tt, (tt, (tt, (z .1 i, tt)))))));
-      read-lists = λ w κs x g r q e o. both w (λ p k. let z = read-unique _ _ _ _ _ _ _ _ _ _ _ _ p k in (z .0, λ i. (tt, (z .1 i, (z .2 i, (z .3 i, tt))))));
+      write-lists = λ w κs x g r q e o. both w (λ p k. let z = write-unique _ _ _ _ _ _ _ _ p k in (z .0, λ i. (tt, (tt, (tt, (tt, (tt, (tt, (z .1 i, tt)))))))));
+      read-lists = λ w κs x g r q e o. both w (λ p k. let z = read-unique _ _ _ _ _ _ _ _ _ _ _ _ _ _ _ _ _ _ p k in (z .0, λ i. (tt, (z .1 i, (z .2 i, (z .3 i, (z .4 i, (z .5 i, tt))))))));
       check-record = λ w κs x g r q e o. both w same;
       number-at = λ w κs x g r q e o. both w same;
       number-size = λ w κs x g r q e o. both w (λ p k. same (p .0) (k .0));
@@ -52,6 +52,8 @@ unique =
       reader-moved = λ w κs x g r q e o. both w same;
       reader-behind = λ w κs x g r q e o. both w same;
       check-head = λ w κs x g r q e o. both w same;
+      check-ratio = λ w κs x g r q e o. both w same;
+      check-own = λ w κs x g r q e o. both w same;
       check-numbers = λ w κs x g r q e o. both w same;
       check-segment = λ w κs x g r q e o. both w same;
       check = λ w κs x g r q e o. both w same;

@@ -7,4 +7,11 @@ use Rattle.c_calls.proofs.Worked.{numbers-worked}
 use Rattle.promises.specs.Worked.{Worked}
 
 pub worked : Worked
-worked = record { nets = nets-worked; records = records-worked; drawn = drawn-worked; program = program-worked; for-c = numbers-worked }
+worked =
+    record {
+      nets = nets-worked;
+      records = records-worked;
+      drawn = drawn-worked;
+      program = program-worked;
+      for-c = numbers-worked;
+    }

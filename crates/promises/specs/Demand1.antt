@@ -1,22 +1,23 @@
 -- Demand 1: "No input makes it fail. Every entry refuses a bad net, record, length or room by itself, with the number
 -- and place of document 01; a refusal changes nothing in lent memory. An otherwise sound net is refused as not joined
--- exactly when some post has no route to the source." First the rules: document 01's rules, one for each number, give
--- one answer for every input (`by-the-rules`, `no-other`). Then every entry, over its own contract (`Says`,
--- specs/Contracts), whatever is handed to it: where the rules refuse, every outcome is that refusal, and what was lent
--- is as it was (`refuses`); an outcome is a refusal only where they refuse (`only-then`); for C it is otherwise a
--- result (`otherwise`). Of a record both are said of reading and then of the net that was read (`OnRecord`). The rules
--- stand in net/specs/Rules, numbers/specs/Rules, writing/specs/Rules, reading/specs/Rules and drawn/specs/Rules. What
--- an answer says, its number and values, is `saysOf`, `marginSaysOf`, `saysBy`, `saysWritten`, `saysPlanned`,
--- `checkSays` and, for C, `packed` and `marked`.
+-- exactly when some post has no route to the source." For every head, of either form, and whatever ratios and segments
+-- are lent with it. First the rules: document 01's rules, one for each number, give one answer for every input
+-- (`by-the-rules`, `no-other`). Then every entry, over its own contract (`Says`, specs/Contracts), whatever is handed
+-- to it: where the rules refuse, every outcome is that refusal, and what was lent is as it was (`refuses`); an outcome
+-- is a refusal only where they refuse (`only-then`); for C it is otherwise a result (`otherwise`). Of a record both are
+-- said of reading and then of the net that was read (`OnRecord`). The rules stand in net/specs/Rules,
+-- numbers/specs/Rules, writing/specs/Rules, reading/specs/Rules and drawn/specs/Rules. What an answer says, its number
+-- and values, is `saysOf`, `marginSaysOf`, `saysBy`, `saysWritten`, `saysPlanned`, `checkSays` and, for C, `packed` and
+-- `marked`.
 use mathlib.Core.Path.{_≡_}
 use mathlib.Core.Logic.{_↔_}
 use mathlib.Core.List.{List}
 use mathlib.Core.Option.{Option, some}
-use Prim.Native.Nat.{ℕ, _<_, _^_}
+use Prim.Native.Nat.{ℕ, _≤_, _<_, _^_}
 use lib.ListN.{length}
 use denote.Ref.{now}
-use Rattle.net.specs.Net.{Net, every, segmentsOf, mostSegments}
-use Rattle.net.specs.Ready.{netBy, countBy}
+use Rattle.net.specs.Net.{Ratio, Net, every, ratiosOf, segmentsOf, mostPosts, mostSegments}
+use Rattle.net.specs.Ready.{netBy, ratioCountBy, countBy}
 use Rattle.net.specs.Refusals.{Lent, refusal, saysOf as checkSays}
 use Rattle.net.specs.Rules.{NetSound, LongEnough, Joined, LowestApart, BuildRule, MarginRule}
 use Rattle.net.specs.Building.{refused, buildRefusal, marginRefusal}
@@ -46,32 +47,33 @@ use Rattle.drawn.specs.Rules.{Answers}
 use Rattle.promises.specs.Contracts.{Says}
 use Rattle.promises.specs.Entries as entry
 
--- THE RULES, of building a net n that claims m segments, with three lists of these lengths
-pub record BuildRules (n : Net) (m : ℕ) (lent : Lent) : Type 0 where
-  pub by-the-rules : BuildRule every m n lent (buildRefusal every n m lent)
-  pub no-other : (r : Option Refusal) → BuildRule every m n lent r → r ≡ buildRefusal every n m lent
+-- THE RULES, of building a net n that claims m segments and for which k ratios are lent, with three lists of these
+-- lengths
+pub record BuildRules (n : Net) (m k : ℕ) (lent : Lent) : Type 0 where
+  pub by-the-rules : BuildRule every m n k lent (buildRefusal every n m k lent)
+  pub no-other : (r : Option Refusal) → BuildRule every m n k lent r → r ≡ buildRefusal every n m k lent
   -- 9 exactly when nothing before it holds, that post has no route and every lower one has
-  pub nine : (v : ℕ) → (buildRefusal every n m lent ≡ some (refusal 9 v))
-      ↔ (NetSound every m n × LongEnough n lent × LowestApart every n v)
+  pub nine : (v : ℕ) → (buildRefusal every n m k lent ≡ some (refusal 9 v))
+      ↔ (NetSound every m n × LongEnough n lent × (n .head .posts ≤ k) × LowestApart every n v)
   -- an otherwise sound net is refused as not joined exactly when some post has no route to the source
-  pub not-joined : NetSound every m n → LongEnough n lent
-      → ((v : ℕ) × (buildRefusal every n m lent ≡ some (refusal 9 v)))
+  pub not-joined : NetSound every m n → LongEnough n lent → n .head .posts ≤ k
+      → ((v : ℕ) × (buildRefusal every n m k lent ≡ some (refusal 9 v)))
       ↔ ((v : ℕ) × (v < n .head .posts) × (Joined every n v → ⊥))
 
 -- of the margin of a post
-pub record MarginRules (n : Net) (m : ℕ) (post : ℕ) : Type 0 where
-  pub by-the-rules : MarginRule every m n post (marginRefusal every n m post)
-  pub no-other : (r : Option Refusal) → MarginRule every m n post r → r ≡ marginRefusal every n m post
+pub record MarginRules (n : Net) (m k post : ℕ) : Type 0 where
+  pub by-the-rules : MarginRule every m n k post (marginRefusal every n m k post)
+  pub no-other : (r : Option Refusal) → MarginRule every m n k post r → r ≡ marginRefusal every n m k post
 
--- of reading bytes, each below 256 (`Bytes`), with room for so many segments
-pub record ReadRules (bytes : List ℕ) (room : ℕ) : Type 0 where
-  pub by-the-rules : Bytes bytes → ReadRule bytes room (netRead bytes room 0)
-  pub no-other : (g : Got Net) → ReadRule bytes room g → netRead bytes room 0 ≡ g
+-- of reading bytes, each below 256 (`Bytes`), with room for so many segments and so many ratios
+pub record ReadRules (bytes : List ℕ) (room ratioRoom : ℕ) : Type 0 where
+  pub by-the-rules : Bytes bytes → ReadRule bytes room ratioRoom (netRead bytes room ratioRoom 0)
+  pub no-other : (g : Got Net) → ReadRule bytes room ratioRoom g → netRead bytes room ratioRoom 0 ≡ g
 
 -- of writing into a room of so many bytes
-pub record WriteRules (n : Net) (m : ℕ) (room : ℕ) : Type 0 where
-  pub by-the-rules : WriteRule m n room (writeRefusal n m room)
-  pub no-other : (r : Option Refusal) → WriteRule m n room r → r ≡ writeRefusal n m room
+pub record WriteRules (n : Net) (m k room : ℕ) : Type 0 where
+  pub by-the-rules : WriteRule m n k room (writeRefusal n m k room)
+  pub no-other : (r : Option Refusal) → WriteRule m n k room r → r ≡ writeRefusal n m k room
 
 -- OF AN OUTCOME: `rules r` is that the rules refuse with r, `says r` that the answer is this refusal, and `kept` that
 -- everything that was lent is as it was
@@ -84,25 +86,25 @@ pub record RefusesInNumber (rules says : Refusal → Type 0) (kept result : Type
   pub refuses : (r : Refusal) → rules r → says r × kept
   pub otherwise : ((r : Refusal) → rules r → ⊥) → result
 
--- BUILDING a net n that claims m segments, where three lists held l, s and w
-abbrev pub BuildRefuses : Net → ℕ → List ℕ → List ℕ → List ℕ → Answer → List ℕ → List ℕ → List ℕ → Type 0
-BuildRefuses n m l s w a l′ s′ w′ = Refuses (λ r. buildRefusal every n m (lentOf l s w) ≡ some r)
+-- BUILDING a net n that claims m segments and for which k ratios are lent, where three lists held l, s and w
+abbrev pub BuildRefuses : Net → ℕ → ℕ → List ℕ → List ℕ → List ℕ → Answer → List ℕ → List ℕ → List ℕ → Type 0
+BuildRefuses n m k l s w a l′ s′ w′ = Refuses (λ r. buildRefusal every n m k (lentOf l s w) ≡ some r)
     (λ r. saysOf a ≡ refused r) ((l′ ≡ l) × (s′ ≡ s) × (w′ ≡ w))
 
--- THE MARGIN of a post; no list is lent for it
-abbrev pub MarginRefuses : Net → ℕ → ℕ → MarginAnswer → Type 0
-MarginRefuses n m post a = Refuses (λ r. marginRefusal every n m post ≡ some r)
+-- THE MARGIN of a post; nothing that is lent for it can change
+abbrev pub MarginRefuses : Net → ℕ → ℕ → ℕ → MarginAnswer → Type 0
+MarginRefuses n m k post a = Refuses (λ r. marginRefusal every n m k post ≡ some r)
     (λ r. marginSaysOf a ≡ B.MarginAnswer.refused r) (Unit {0})
 
--- WRITING a net n that claims m segments, where the room held those bytes
-abbrev pub WriteRefuses : Net → ℕ → List ℕ → WriteAnswer → List ℕ → Type 0
-WriteRefuses n m room a x = Refuses (λ r. writeRefusal n m (length room) ≡ some r) (λ r. saysWritten a ≡ refusal-of r)
-    (x ≡ room)
+-- WRITING a net n that claims m segments and for which k ratios are lent, where the room held those bytes
+abbrev pub WriteRefuses : Net → ℕ → ℕ → List ℕ → WriteAnswer → List ℕ → Type 0
+WriteRefuses n m k room a x = Refuses (λ r. writeRefusal n m k (length room) ≡ some r)
+    (λ r. saysWritten a ≡ refusal-of r) (x ≡ room)
 
--- READING, with room for so many segments, which are then these
-abbrev pub ReadRefuses : List ℕ → ℕ → ReadAnswer → List Segment → Type 0 → Type 0
-ReadRefuses bytes room a segments kept = Refuses (λ r. netRead bytes room 0 ≡ unread r)
-    (λ r. saysBy a segments ≡ refusal-of r) kept
+-- READING, with room for so many segments and so many ratios, which are then these
+abbrev pub ReadRefuses : List ℕ → ℕ → ℕ → ReadAnswer → List Ratio → List Segment → Type 0 → Type 0
+ReadRefuses bytes room ratioRoom a ratios segments kept = Refuses (λ r. netRead bytes room ratioRoom 0 ≡ unread r)
+    (λ r. saysBy a ratios segments ≡ refusal-of r) kept
 
 -- CHECKING a record, of which reading says g
 abbrev pub CheckRefuses : Got Net → Checked → Type 0
@@ -113,43 +115,52 @@ pub data OnRecord (bytes : List ℕ) (refusing : Net → Option Refusal) (r : Re
   by-reading : recordRead bytes ≡ unread r → OnRecord bytes refusing r
   by-net : (n : Net) (next : ℕ) → recordRead bytes ≡ got n next → refusing n ≡ some r → OnRecord bytes refusing r
 
--- planning it, with three lists of these lengths; writing it again, into a room of so many bytes; the margin of a post
+-- planning it, with three lists of these lengths; writing it again, into a room of so many bytes; the margin of a post.
+-- There are places for the ratios of as many posts as a net may have
 abbrev pub Unplanned : List ℕ → Lent → Refusal → Type 0
-Unplanned bytes lent = OnRecord bytes (λ n. buildRefusal every n (length (n .segments)) lent)
+Unplanned bytes lent = OnRecord bytes (λ n. buildRefusal every n (length (n .segments)) mostPosts lent)
 
 abbrev pub Unwritten : List ℕ → ℕ → Refusal → Type 0
-Unwritten bytes room = OnRecord bytes (λ n. writeRefusal n (length (n .segments)) room)
+Unwritten bytes room = OnRecord bytes (λ n. writeRefusal n (length (n .segments)) mostPosts room)
 
 abbrev pub Unmeasured : List ℕ → ℕ → Refusal → Type 0
-Unmeasured bytes post = OnRecord bytes (λ n. marginRefusal every n (length (n .segments)) post)
+Unmeasured bytes post = OnRecord bytes (λ n. marginRefusal every n (length (n .segments)) mostPosts post)
 
 -- EVERY ENTRY, whatever is handed to it
 pub record Demand1 : Type 2 where
-  pub build-rules : (n : Net) (m : ℕ) (lent : Lent) → BuildRules n m lent
-  pub margin-rules : (n : Net) (m post : ℕ) → MarginRules n m post
-  pub read-rules : (bytes : List ℕ) (room : ℕ) → ReadRules bytes room
-  pub write-rules : (n : Net) (m room : ℕ) → WriteRules n m room
+  pub build-rules : (n : Net) (m k : ℕ) (lent : Lent) → BuildRules n m k lent
+  pub margin-rules : (n : Net) (m k post : ℕ) → MarginRules n m k post
+  pub read-rules : (bytes : List ℕ) (room ratioRoom : ℕ) → ReadRules bytes room ratioRoom
+  pub write-rules : (n : Net) (m k room : ℕ) → WriteRules n m k room
   -- over a lent list of segments
-  pub build : Says entry.build (λ κs (h, (segments, (l, (s, (w, _))))) a (_, (_, (l′, (s′, (w′, _))))).
-      BuildRefuses (netOn h (now segments)) (length (now segments)) (now l) (now s) (now w) a l′ s′ w′)
-  pub margin : Says entry.margin (λ κs (h, (segments, (_, (post, _)))) a _.
-      MarginRefuses (netOn h (now segments)) (length (now segments)) post a)
-  pub read : Says entry.read (λ κs (bytes, (l, _)) a (_, (l′, _)).
-      ReadRefuses (now bytes) (length (now l)) a l′ (l′ ≡ now l))
-  pub write : Says entry.write (λ κs (h, (segments, (room, _))) a (_, (_, (x, _))).
-      WriteRefuses (netOn h (now segments)) (length (now segments)) (now room) a x)
+  pub build : Says entry.build
+      (λ κs (h, (p, (q, (segments, (l, (s, (w, _))))))) a (_, (_, (_, (_, (l′, (s′, (w′, _))))))).
+      BuildRefuses (netOn h (now p) (now q) (now segments)) (length (now segments)) (ratioCountBy p q)
+      (now l) (now s) (now w) a l′ s′ w′)
+  pub margin : Says entry.margin (λ κs (h, (p, (q, (segments, (_, (post, _)))))) a _.
+      MarginRefuses (netOn h (now p) (now q) (now segments)) (length (now segments)) (ratioCountBy p q) post a)
+  pub read : Says entry.read (λ κs (bytes, (p, (q, (l, _)))) a (_, (p′, (q′, (l′, _)))).
+      ReadRefuses (now bytes) (length (now l)) (ratioCountBy p q) a (ratiosOf p′ q′) l′
+      ((p′ ≡ now p) × (q′ ≡ now q) × (l′ ≡ now l)))
+  pub write : Says entry.write (λ κs (h, (p, (q, (segments, (room, _))))) a (_, (_, (_, (_, (x, _))))).
+      WriteRefuses (netOn h (now p) (now q) (now segments)) (length (now segments)) (ratioCountBy p q) (now room) a x)
   -- over plain lists
   pub build-lists : Says entry.build-lists
-      (λ κs (h, (a, (b, (lengths, (l, (s, (w, _))))))) r (_, (_, (_, (_, (l′, (s′, (w′, _))))))).
-      BuildRefuses (netBy h a b lengths) (countBy a b lengths) (now l) (now s) (now w) r l′ s′ w′)
-  pub margin-lists : Says entry.margin-lists (λ κs (h, (a, (b, (lengths, (_, (post, _)))))) r _.
-      MarginRefuses (netBy h a b lengths) (countBy a b lengths) post r)
-  pub read-lists : Says entry.read-lists (λ κs (bytes, (a, (b, (lengths, _)))) r (_, (a′, (b′, (lengths′, _)))).
-      ReadRefuses (now bytes) (countBy a b lengths) r (segmentsOf a′ b′ lengths′)
-      ((a′ ≡ now a) × (b′ ≡ now b) × (lengths′ ≡ now lengths)))
-  pub write-lists : Says entry.write-lists (λ κs (h, (a, (b, (lengths, (room, _))))) r (_, (_, (_, (_, (x, _))))).
-      WriteRefuses (netBy h a b lengths) (countBy a b lengths) (now room) r x)
-  pub check-record : Says entry.check-record (λ κs (bytes, _) a _. CheckRefuses (netRead (now bytes) mostSegments 0) a)
+      (λ κs (h, (p, (q, (a, (b, (lengths, (l, (s, (w, _)))))))))
+      r (_, (_, (_, (_, (_, (_, (l′, (s′, (w′, _))))))))).
+      BuildRefuses (netBy h p q a b lengths) (countBy a b lengths) (ratioCountBy p q)
+      (now l) (now s) (now w) r l′ s′ w′)
+  pub margin-lists : Says entry.margin-lists (λ κs (h, (p, (q, (a, (b, (lengths, (_, (post, _)))))))) r _.
+      MarginRefuses (netBy h p q a b lengths) (countBy a b lengths) (ratioCountBy p q) post r)
+  pub read-lists : Says entry.read-lists
+      (λ κs (bytes, (p, (q, (a, (b, (lengths, _)))))) r (_, (p′, (q′, (a′, (b′, (lengths′, _)))))).
+      ReadRefuses (now bytes) (countBy a b lengths) (ratioCountBy p q) r (ratiosOf p′ q′) (segmentsOf a′ b′ lengths′)
+      ((p′ ≡ now p) × (q′ ≡ now q) × (a′ ≡ now a) × (b′ ≡ now b) × (lengths′ ≡ now lengths)))
+  pub write-lists : Says entry.write-lists
+      (λ κs (h, (p, (q, (a, (b, (lengths, (room, _))))))) r (_, (_, (_, (_, (_, (_, (x, _))))))).
+      WriteRefuses (netBy h p q a b lengths) (countBy a b lengths) (ratioCountBy p q) (now room) r x)
+  pub check-record : Says entry.check-record (λ κs (bytes, _) a _.
+      CheckRefuses (netRead (now bytes) mostSegments mostPosts 0) a)
   -- on records
   pub plan : Says entry.plan (λ κs (bytes, (l, (s, (w, _)))) a (_, (l′, (s′, (w′, _)))).
       Refuses (Unplanned (now bytes) (lentOf (now l) (now s) (now w))) (λ r. saysPlanned a ≡ refusal-of r)

@@ -3,13 +3,13 @@
 -- whole number of sixteenths that it is." The definitions of net/specs compute the trees; `TreesAsStated` is what they
 -- come to in document 01's own words, over chains, routes and the walk's rules. The rest is said of the outcomes that
 -- the entries' own contracts allow (`Says`, specs/Contracts): what building leaves in the lent lists, a margin that is
--- given, what is printed. Records both ways and drawn runs are said over `Reads`, `Writes` and `drawnOf`, which are
--- those contracts (specs/Tied). What an answer says, its number and values, is `saysOf`, `saysPlanned`, `marginSaysOf`,
--- `saysBy`, `saysWritten` and, of a run, `drawnSays`.
+-- given, what is printed. The ratio of a post stands in specs/Ratios, records both ways in specs/Records. Drawn runs
+-- are said over `drawnOf`, which is that contract (specs/Tied). What an answer says, its number and values, is
+-- `saysOf`, `saysPlanned`, `marginSaysOf`, `saysBy`, `saysWritten` and, of a run, `drawnSays`.
 use mathlib.Core.Path.{_≡_}
 use mathlib.Core.Logic.{_↔_}
 use mathlib.Core.Bool.{false}
-use mathlib.Core.List.{List, _++_}
+use mathlib.Core.List.{List}
 use Prim.Native.Nat.{ℕ, _+_, _*_, _≤_, _<_}
 use lib.Dec.{ltb}
 use lib.IntN.{ℤ, pos, subℕ}
@@ -22,26 +22,20 @@ use Rattle.net.specs.declared.Segment.{Segment}
 use Rattle.net.specs.declared.Tree.{Tree}
 use Rattle.net.specs.declared.Tree.the-variants.{Shortest, Between}
 use denote.Ref.{now}
-use Rattle.net.specs.Net.{Net, mostRatio, scaled, every, lengthAt, setLength, mostPosts}
+use Rattle.net.specs.Net.{Net, house, scaled, every, lengthAt, setLength, mostPosts}
 use Rattle.net.specs.Trees.{at, IsLeast, HangsBy, ExactlyBelonging, Climb, IsTree, entry, usedBy, pathIn}
 use Rattle.net.specs.Walk.{Notes, Given}
 use Rattle.net.specs.WalkRules.{WalkGives}
-use Rattle.net.specs.Building.{built, lightestOf, leastLengthsOf, shortestOf, betweenOf, laidOf, treeOf}
+use Rattle.net.specs.Building.{pOf, qOf, built, lightestOf, leastLengthsOf, shortestOf, betweenOf, laidOf, treeOf}
 use Rattle.net.specs.Building as B
 use Rattle.net.specs.Ready.{netBy}
 use Rattle.crossings.specs.Lists.{netOn}
-use Rattle.building.specs.Answers.{saysOf, Leaves}
-use Rattle.building.specs.declared.Answer.{Answer}
+use Rattle.building.specs.Answers.{saysOf}
 use Rattle.margins.specs.Answers.{marginSaysOf}
 use Rattle.margins.specs.declared.MarginAnswer.{MarginAnswer}
 use Rattle.numbers.specs.Numbers.{Bytes, got}
-use Rattle.numbers.specs.Putting.{onto}
-use Rattle.reading.specs.Answers.{saysBy}
 use Rattle.reading.specs.Longest.{LongestRecord}
-use Rattle.writing.specs.Answers.{result, saysWritten, Writes}
-use Rattle.reading.specs.declared.ReadAnswer.{ReadAnswer}
-use Rattle.writing.specs.declared.WriteAnswer.{WriteAnswer}
-use Rattle.on_segments.specs.Reading.{Reads}
+use Rattle.writing.specs.Answers.{result}
 use Rattle.on_records.specs.Asked.{recordRead}
 use Rattle.on_records.specs.Says.{Plan, saysPlanned}
 use Rattle.reading.specs.Reading.{enoughBytes}
@@ -53,9 +47,11 @@ use Rattle.drawn.specs.declared.Run.the-variants.{Straight, Corner}
 use Rattle.drawn.specs.declared.Answer.{Answer as Drawn}
 use Rattle.promises.specs.Contracts.{Says}
 use Rattle.promises.specs.Entries as entry
+use Rattle.promises.specs.Ratios.{RatiosAsStated, ScaledAsStated, ScaledBy, OwnScaledBy, SomeScaled}
+use Rattle.promises.specs.Records.{RecordsBothWays}
 
 -- THE TREES of a net that building takes
--- what its walk is given: "Walk the lightest tree", the shortest tree and D for laying, and one ratio for all posts
+-- what its walk is given: "Walk the lightest tree", the shortest tree and D for laying, and each post's own ratio
 abbrev pub given : Net → Given
 given n =
     record {
@@ -64,8 +60,8 @@ given n =
       walked = lightestOf every n;
       shortest = shortestOf every n;
       D = leastLengthsOf every n;
-      p = λ _. n .head .p;
-      q = λ _. n .head .q;
+      p = pOf n;
+      q = qOf n;
     }
 
 -- the list t and the laid posts are those of the notes that the rules of the walk give from the source, and the rules
@@ -133,61 +129,24 @@ pub record PlannedAsStated (bytes l s w l′ s′ w′ : List ℕ) (q : Plan) : 
   pub count-is : q .count ≡ length (n .segments)
   pub built-is : BuiltAsStated n l s w l′ s′ w′ (q .lightest) (q .shortest) (q .between) (q .laid)
 
--- THE RATIO: "The ratio isn't reduced: 2/2 and 1/1 build equal trees but are different records." Of the net of a head h
--- and of the same net at (k × p)/(k × q)
-pub record ScaledAsStated (h : Head) (k : ℕ) (segments : List Segment) : Type 0 where
-  -- building gives them the same answer, measures and count of laid paths, and leaves the lists alike
-  pub equal-trees : (l s w : List ℕ) {a b : Answer} {l′ l₂ s′ s₂ w′ w₂ : List ℕ}
-      → Leaves (netOn h segments) (length segments) l s w a l′ s′ w′
-      → Leaves (netOn (scaled k h) segments) (length segments) l s w b l₂ s₂ w₂
-      → (a ≡ b) × (l′ ≡ l₂) × (s′ ≡ s₂) × (w′ ≡ w₂)
-  pub different-records : 2 ≤ k → (room room₂ : List ℕ) {a b : WriteAnswer} {size size₂ : ℕ} {x y : List ℕ}
-      → Writes (netOn h segments) (length segments) room a x → saysWritten a ≡ result size
-      → Writes (netOn (scaled k h) segments) (length segments) room₂ b y → saysWritten b ≡ result size₂
-      → take size x ≡ take size₂ y → ⊥
-
 -- A MARGIN z that is given for a post in the named tree: "It is signed, and below zero exactly when the post breaks the
 -- limit. For the source it is 0."
 pub record MarginAsStated (n : Net) (t : Tree) (post : ℕ) (z : ℤ) : Type 0 where
   -- the trees and the least lengths that it is worked out from
   pub as-stated : TreesAsStated n
-  -- "(p + q) × D minus q × path in the tree"
-  pub difference : z ≡ subℕ ((n .head .p + n .head .q) * at (leastLengthsOf every n) post)
-      (n .head .q * pathIn (n .segments) (n .head .posts) (treeOf every n t) post)
+  -- "(p + q) × D minus q × path in the tree", at the post's own ratio
+  pub difference : z ≡ subℕ ((pOf n post + qOf n post) * at (leastLengthsOf every n) post)
+      (qOf n post * pathIn (n .segments) (n .head .posts) (treeOf every n t) post)
   pub below-zero : ltZ z (pos 0)
-      ≡ ltb ((n .head .p + n .head .q) * at (leastLengthsOf every n) post)
-      (n .head .q * pathIn (n .segments) (n .head .posts) (treeOf every n t) post)
+      ≡ ltb ((pOf n post + qOf n post) * at (leastLengthsOf every n) post)
+      (qOf n post * pathIn (n .segments) (n .head .posts) (treeOf every n t) post)
   pub zero-at-limit : (z ≡ pos 0)
-      ↔ ((n .head .p + n .head .q) * at (leastLengthsOf every n) post ≡ n .head .q * pathIn (n .segments)
+      ↔ ((pOf n post + qOf n post) * at (leastLengthsOf every n) post ≡ qOf n post * pathIn (n .segments)
       (n .head .posts) (treeOf every n t) post)
   pub source-zero : post ≡ n .head .source → z ≡ pos 0
   -- no post breaks its limit in the third tree, nor in the shortest
   pub between-within : t ≡ Between → ltZ z (pos 0) ≡ false
   pub shortest-within : t ≡ Shortest → ltZ z (pos 0) ≡ false
-
--- RECORDS: "read and written both ways without loss, one record for one net". What is read are bytes, each below 256
--- (`Bytes`)
-pub record RecordsBothWays : Type 0 where
-  -- what was written reads as the same net, laid into any list that is long enough
-  pub written-then-read : (n : Net) (room : List ℕ) {a : WriteAnswer} {size : ℕ} {x : List ℕ}
-      → Writes n (length (n .segments)) room a x → saysWritten a ≡ result size
-      → (l : List Segment) {b : ReadAnswer} {l′ : List Segment} → length (n .segments) ≤ length l
-      → Reads (take size x) l b l′
-      → (saysBy b l′ ≡ result n) × (l′ ≡ n .segments ++ drop (length (n .segments)) l)
-  -- what was read is written again byte for byte, into any room that is long enough
-  pub read-then-written : (bytes : List ℕ) (l : List Segment) {a : ReadAnswer} {l′ : List Segment} {n : Net}
-      → Bytes bytes → Reads bytes l a l′ → saysBy a l′ ≡ result n
-      → (room : List ℕ) {b : WriteAnswer} {x : List ℕ} → length bytes ≤ length room
-      → Writes n (length (n .segments)) room b x
-      → (saysWritten b ≡ result (length bytes)) × (x ≡ onto bytes room)
-  -- two records of one net are equal
-  pub one-record : (b c : List ℕ) (l m : List Segment) {a a₂ : ReadAnswer} {l′ m′ : List Segment} {n : Net} → Bytes b
-      → Bytes c
-      → Reads b l a l′ → saysBy a l′ ≡ result n → Reads c m a₂ m′ → saysBy a₂ m′ ≡ result n → b ≡ c
-  -- and two nets of one record are
-  pub one-net : (n m : Net) (room room₂ : List ℕ) {a b : WriteAnswer} {size size₂ : ℕ} {x y : List ℕ}
-      → Writes n (length (n .segments)) room a x → saysWritten a ≡ result size
-      → Writes m (length (m .segments)) room₂ b y → saysWritten b ≡ result size₂ → take size x ≡ take size₂ y → n ≡ m
 
 -- DRAWN RUNS: "A drawn length becomes the whole number of sixteenths that it is."
 pub record DrawnAsStated : Type 0 where
@@ -202,7 +161,7 @@ pub record ProgramAsStated : Type 2 where
   pub printed-is : Says entry.plan (λ κs (bytes, (l, (s, (w, _)))) a (_, (l′, (s′, (w′, _)))).
       length (now l) ≡ mostPosts → length (now s) ≡ mostPosts → length (now w) ≡ mostPosts
       → printed (now bytes) ≡ answerText a l′ s′ w′)
-  -- "The program reads at most 14,351, .. so its answer is the reader's answer on the whole input": where what was read
+  -- "The program reads at most 15,372, .. so its answer is the reader's answer on the whole input": where what was read
   -- is as much of the input as there is room for, the text is what is printed for the whole input
   pub whole-input : Says entry.print (λ κs (input, (n, _)) r (_, (_, (out, _))). (bytes : List ℕ) → Bytes bytes
       → take n (now input) ≡ take (length (now input)) bytes → take r out ≡ printed bytes)
@@ -211,29 +170,37 @@ pub record ProgramAsStated : Type 2 where
 -- EVERY ENTRY
 pub record Demand2 : Type 2 where
   -- over a lent list of segments
-  pub build : Says entry.build (λ κs (h, (segments, (l, (s, (w, _))))) a (_, (_, (l′, (s′, (w′, _))))).
+  pub build : Says entry.build
+      (λ κs (h, (p, (q, (segments, (l, (s, (w, _))))))) a (_, (_, (_, (_, (l′, (s′, (w′, _))))))).
       (x y z : Measured) (k : ℕ) → saysOf a ≡ built x y z k
-      → BuiltAsStated (netOn h (now segments)) (now l) (now s) (now w) l′ s′ w′ x y z k)
-  pub margin : Says entry.margin (λ κs (h, (segments, (t, (post, _)))) a _.
-      (z : ℤ) → marginSaysOf a ≡ B.MarginAnswer.margin z → MarginAsStated (netOn h (now segments)) t post z)
+      → BuiltAsStated (netOn h (now p) (now q) (now segments)) (now l) (now s) (now w) l′ s′ w′ x y z k)
+  pub margin : Says entry.margin (λ κs (h, (p, (q, (segments, (t, (post, _)))))) a _.
+      (z : ℤ) → marginSaysOf a ≡ B.MarginAnswer.margin z
+      → MarginAsStated (netOn h (now p) (now q) (now segments)) t post z)
   -- over plain lists
   pub build-lists : Says entry.build-lists
-      (λ κs (h, (a, (b, (lengths, (l, (s, (w, _))))))) r (_, (_, (_, (_, (l′, (s′, (w′, _))))))).
+      (λ κs (h, (p, (q, (a, (b, (lengths, (l, (s, (w, _)))))))))
+      r (_, (_, (_, (_, (_, (_, (l′, (s′, (w′, _))))))))).
       (x y z : Measured) (k : ℕ) → saysOf r ≡ built x y z k
-      → BuiltAsStated (netBy h a b lengths) (now l) (now s) (now w) l′ s′ w′ x y z k)
-  pub margin-lists : Says entry.margin-lists (λ κs (h, (a, (b, (lengths, (t, (post, _)))))) r _.
-      (z : ℤ) → marginSaysOf r ≡ B.MarginAnswer.margin z → MarginAsStated (netBy h a b lengths) t post z)
+      → BuiltAsStated (netBy h p q a b lengths) (now l) (now s) (now w) l′ s′ w′ x y z k)
+  pub margin-lists : Says entry.margin-lists (λ κs (h, (p, (q, (a, (b, (lengths, (t, (post, _)))))))) r _.
+      (z : ℤ) → marginSaysOf r ≡ B.MarginAnswer.margin z → MarginAsStated (netBy h p q a b lengths) t post z)
   -- on records
   pub plan : Says entry.plan (λ κs (bytes, (l, (s, (w, _)))) a (_, (l′, (s′, (w′, _)))).
       (q : Plan) → saysPlanned a ≡ result q → PlannedAsStated (now bytes) (now l) (now s) (now w) l′ s′ w′ q)
   pub record-margin : Says entry.record-margin (λ κs (bytes, (t, (post, _))) a _.
       (z : ℤ) → marginSaysOf a ≡ B.MarginAnswer.margin z
       → (n : Net) (next : ℕ) → recordRead (now bytes) ≡ got n next → MarginAsStated n t post z)
-  -- both ratios within the bounds
-  pub ratio : (h : Head) (k : ℕ) (segments : List Segment) → 1 ≤ k → k * h .p ≤ mostRatio → k * h .q ≤ mostRatio
-      → ScaledAsStated h k segments
+  -- of every net that is lent
+  pub ratios : (h : Head) (p q : List ℕ) (segments : List Segment) → RatiosAsStated h p q segments
+  -- "The ratio isn't reduced": the house ratio, in either form
+  pub ratio : (h : Head) (k : ℕ) (p q : List ℕ) (segments : List Segment) → ScaledBy k (house h) (house (scaled k h))
+      → ScaledAsStated h (scaled k h) p q p q segments (2 ≤ k)
+  -- and the posts' own
+  pub own-ratio : (h : Head) (k : ℕ → ℕ) (p q p₂ q₂ : List ℕ) (segments : List Segment) → OwnScaledBy h k p q p₂ q₂
+      → ScaledAsStated h h p q p₂ q₂ segments (SomeScaled h k)
   pub records : RecordsBothWays
-  -- "The longest good record has 14,346 bytes."
+  -- "The longest record has 15,367 bytes"
   pub longest : LongestRecord
   pub drawn : DrawnAsStated
   pub program : ProgramAsStated

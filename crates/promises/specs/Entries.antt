@@ -29,6 +29,8 @@ use Rattle.numbers.proofs.reader.number as of-reader-number
 use Rattle.numbers.proofs.reader.moved as of-reader-moved
 use Rattle.numbers.proofs.reader.behind as of-reader-behind
 use Rattle.checks.proofs.check_head as of-check-head
+use Rattle.checks.proofs.check_ratio as of-check-ratio
+use Rattle.checks.proofs.check_own as of-check-own
 use Rattle.checks.proofs.check_numbers as of-check-numbers
 use Rattle.checks.proofs.check_segment as of-check-segment
 use Rattle.checks.proofs.check as of-check
@@ -125,6 +127,12 @@ reader-behind = record { ended = of-reader-behind.ended; clauses = λ M. of-read
 -- 1 to 7
 abbrev pub check-head : Function
 check-head = record { ended = of-check-head.ended; clauses = λ M. of-check-head.clauses }
+
+abbrev pub check-ratio : Function
+check-ratio = record { ended = of-check-ratio.ended; clauses = λ M. of-check-ratio.clauses }
+
+abbrev pub check-own : Function
+check-own = record { ended = of-check-own.ended; clauses = λ M. of-check-own.clauses }
 
 abbrev pub check-numbers : Function
 check-numbers = record { ended = of-check-numbers.ended; clauses = λ M. of-check-numbers.clauses }

@@ -3,6 +3,8 @@ pub mod Contracts
 pub mod Entries
 pub mod Tied
 pub mod Demand1
+pub mod Ratios
+pub mod Records
 pub mod Demand2
 pub mod Demand3
 pub mod Worked

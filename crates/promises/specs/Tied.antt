@@ -6,9 +6,9 @@
 use mathlib.Core.Path.{_≡_}
 use lib.ListN.{length}
 use denote.Ref.{now, at-last}
-use Rattle.net.specs.Net.{every, mostSegments}
-use Rattle.net.specs.Ready.{netBy, segmentsBy, countBy}
-use Rattle.net.specs.Refusals.{checkedOf, first, headLines, segmentLines, checkOf}
+use Rattle.net.specs.Net.{every, mostPosts, mostSegments, ownOf}
+use Rattle.net.specs.Ready.{netBy, ratiosBy, segmentsBy, ratioCountBy, countBy}
+use Rattle.net.specs.Refusals.{checkedOf, first, headLines, ratioLines, ownLines, segmentLines, checkOf}
 use Rattle.net.specs.Building.{marginOf}
 use Rattle.crossings.specs.Lists.{netOn}
 use Rattle.building.specs.Answers.{Leaves}
@@ -37,13 +37,17 @@ pub record Keeps (f : Function) (Φ : (κs : Times f) (x : Handed f κs) → Ans
 
 pub record Tied : Type 2 where
   -- over a lent list of segments
-  pub build : Keeps entry.build (λ κs (h, (segments, (l, (s, (w, _))))) a (_, (_, (l′, (s′, (w′, _))))).
-      Leaves (netOn h (now segments)) (length (now segments)) (now l) (now s) (now w) a l′ s′ w′)
-  pub margin : Keeps entry.margin (λ κs (h, (segments, (tree, (post, _)))) a _.
-      a ≡ marginAnswerOf (marginOf every (netOn h (now segments)) (length (now segments)) tree post))
-  pub write : Keeps entry.write (λ κs (h, (segments, (room, _))) a (_, (_, (room′, _))).
-      Writes (netOn h (now segments)) (length (now segments)) (now room) a room′)
-  pub read : Keeps entry.read (λ κs (bytes, (l, _)) a (_, (l′, _)). Reads (now bytes) (now l) a l′)
+  pub build : Keeps entry.build
+      (λ κs (h, (p, (q, (segments, (l, (s, (w, _))))))) a (_, (_, (_, (_, (l′, (s′, (w′, _))))))).
+      Leaves (netOn h (now p) (now q) (now segments)) (length (now segments)) (ratioCountBy p q)
+      (now l) (now s) (now w) a l′ s′ w′)
+  pub margin : Keeps entry.margin (λ κs (h, (p, (q, (segments, (tree, (post, _)))))) a _.
+      a ≡ marginAnswerOf (marginOf every (netOn h (now p) (now q) (now segments)) (length (now segments))
+      (ratioCountBy p q) tree post))
+  pub write : Keeps entry.write (λ κs (h, (p, (q, (segments, (room, _))))) a (_, (_, (_, (_, (room′, _))))).
+      Writes (netOn h (now p) (now q) (now segments)) (length (now segments)) (ratioCountBy p q) (now room) a room′)
+  pub read : Keeps entry.read (λ κs (bytes, (p, (q, (l, _)))) a (_, (p′, (q′, (l′, _)))).
+      Reads (now bytes) (now p) (now q) (now l) a p′ q′ l′)
   pub drawn : Keeps entry.drawn (λ κs (run, _) a _. a ≡ drawnOf run)
   -- on records
   pub plan : Keeps entry.plan (λ κs (bytes, (l, (s, (w, _)))) a (_, (l′, (s′, (w′, _)))).
@@ -67,15 +71,19 @@ pub record Tied : Type 2 where
       Prints (now input) n (now out) r out′)
   -- over plain lists
   pub build-lists : Keeps entry.build-lists
-      (λ κs (h, (a, (b, (lengths, (l, (s, (w, _))))))) r (_, (_, (_, (_, (l′, (s′, (w′, _))))))).
-      Leaves (netBy h a b lengths) (countBy a b lengths) (now l) (now s) (now w) r l′ s′ w′)
-  pub margin-lists : Keeps entry.margin-lists (λ κs (h, (a, (b, (lengths, (tree, (post, _)))))) r _.
-      r ≡ marginAnswerOf (marginOf every (netBy h a b lengths) (countBy a b lengths) tree post))
-  pub write-lists : Keeps entry.write-lists (λ κs (h, (a, (b, (lengths, (room, _))))) r (_, (_, (_, (_, (room′, _))))).
-      Writes (netBy h a b lengths) (countBy a b lengths) (now room) r room′)
-  pub read-lists : Keeps entry.read-lists (λ κs (bytes, (a, (b, (lengths, _)))) r (_, (a′, (b′, (lengths′, _)))).
-      ReadsLists (now bytes) (now a) (now b) (now lengths) r a′ b′ lengths′)
-  pub check-record : Keeps entry.check-record (λ κs (bytes, _) r _. r ≡ checkRead (netRead (now bytes) mostSegments 0))
+      (λ κs (h, (p, (q, (a, (b, (lengths, (l, (s, (w, _)))))))))
+      r (_, (_, (_, (_, (_, (_, (l′, (s′, (w′, _))))))))).
+      Leaves (netBy h p q a b lengths) (countBy a b lengths) (ratioCountBy p q) (now l) (now s) (now w) r l′ s′ w′)
+  pub margin-lists : Keeps entry.margin-lists (λ κs (h, (p, (q, (a, (b, (lengths, (tree, (post, _)))))))) r _.
+      r ≡ marginAnswerOf (marginOf every (netBy h p q a b lengths) (countBy a b lengths) (ratioCountBy p q) tree post))
+  pub write-lists : Keeps entry.write-lists
+      (λ κs (h, (p, (q, (a, (b, (lengths, (room, _))))))) r (_, (_, (_, (_, (_, (_, (room′, _))))))).
+      Writes (netBy h p q a b lengths) (countBy a b lengths) (ratioCountBy p q) (now room) r room′)
+  pub read-lists : Keeps entry.read-lists
+      (λ κs (bytes, (p, (q, (a, (b, (lengths, _)))))) r (_, (p′, (q′, (a′, (b′, (lengths′, _)))))).
+      ReadsLists (now bytes) (now p) (now q) (now a) (now b) (now lengths) r p′ q′ a′ b′ lengths′)
+  pub check-record : Keeps entry.check-record (λ κs (bytes, _) r _.
+      r ≡ checkRead (netRead (now bytes) mostSegments mostPosts 0))
   -- a number of a record, and a reader of it
   pub number-at : Keeps entry.number-at (λ κs (bytes, (at, _)) r _. r ≡ numberedOf (number (now bytes) at))
   pub number-size : Keeps entry.number-size (λ κs (n, _) r _. r ≡ length (written n))
@@ -87,9 +95,14 @@ pub record Tied : Type 2 where
   pub reader-behind : Keeps entry.reader-behind (λ κs (n, _) r _. r ≡ behindOf n)
   -- 1 to 7
   pub check-head : Keeps entry.check-head (λ κs (h, (count, _)) r _. r ≡ checkedOf (first (headLines h count)))
+  pub check-ratio : Keeps entry.check-ratio (λ κs (p, (q, (v, _))) r _.
+      r ≡ checkedOf (first (ratioLines v (record { p = p; q = q }))))
+  pub check-own : Keeps entry.check-own (λ κs (h, (p, (q, _))) r _.
+      r ≡ checkedOf (first (ownLines h (ownOf h (ratiosBy p q)))))
   pub check-numbers : Keeps entry.check-numbers (λ κs (posts, (a, (b, (l, (i, _))))) r _.
       r ≡ checkedOf (first (segmentLines posts (record { a = a; b = b; length = l }) i)))
   pub check-segment : Keeps entry.check-segment (λ κs (posts, (s, (i, _))) r _.
       r ≡ checkedOf (first (segmentLines posts s i)))
-  pub check : Keeps entry.check (λ κs (h, (a, (b, (lengths, _)))) r _. r ≡ checkOf h (segmentsBy a b lengths))
+  pub check : Keeps entry.check (λ κs (h, (p, (q, (a, (b, (lengths, _)))))) r _.
+      r ≡ checkOf h (ratiosBy p q) (segmentsBy a b lengths))
   pub segment-count : Keeps entry.segment-count (λ κs (a, (b, (lengths, _))) r _. r ≡ length (segmentsBy a b lengths))

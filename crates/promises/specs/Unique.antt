@@ -43,6 +43,8 @@ pub record Unique : Type 2 where
   pub reader-behind : OneOutcome entry.reader-behind
   -- 1 to 7
   pub check-head : OneOutcome entry.check-head
+  pub check-ratio : OneOutcome entry.check-ratio
+  pub check-own : OneOutcome entry.check-own
   pub check-numbers : OneOutcome entry.check-numbers
   pub check-segment : OneOutcome entry.check-segment
   pub check : OneOutcome entry.check

@@ -1,19 +1,20 @@
 -- Numbers that a reader reads one behind the other: each begins where the one before it ends, and where one is refused the reader stays, so the first refusal
--- stands whatever is read after it. What three and five of them come to is what `segment` and `heading` say. Relies on numbers' Groups and on Steps.
+-- stands whatever is read after it. What two, three and five of them come to is what `ratio`, `segment` and `headed` say. Relies on numbers' Groups and on Steps.
 use Prim.Native.Nat.{ℕ, _+_, _≤_}
 use mathlib.Core.Path.{_≡_, refl, sym, _∙_}
 use mathlib.Core.List.{List}
 use native.Mathlib.Omega.{arith}
-use Rattle.net.specs.Refusals.{refusal}
+use Rattle.net.specs.Refusals.{refusal, first, ratioLines}
+use Rattle.net.specs.declared.Form.{Form}
 use Rattle.net.specs.declared.Refusal.{Refusal}
 use Rattle.numbers.specs.Numbers.{Got, got, refused, number}
-use Rattle.reading.specs.Reading.{Reading, andThen, Triple, Heading, triple, heading, segment}
+use Rattle.reading.specs.Reading.{Reading, andThen, unless, hold, Triple, Heading, triple, headed, ratio, segment}
 use Rattle.numbers.specs.Answers.{numberedOf, saysNumbered, behindOf}
-use Rattle.reading.specs.Answers.{Placeable, tripleOf, headingOf, segmentOf}
+use Rattle.reading.specs.Answers.{Placeable, headFrom, tripleOf, headingOf, pairOf, ratioOf, segmentOf}
 use Rattle.numbers.specs.declared.Numbered.{Numbered}
 use Rattle.numbers.specs.declared.Numbered.the-variants.{Number, Refused as NumberRefused}
 use Rattle.numbers.proofs.Groups.{number-next, number-place}
-use Rattle.reading.proofs.Steps.{heading-by, segment-by}
+use Rattle.reading.proofs.Steps.{headed-by, segment-by}
 
 -- OF ANSWERS: the ways out of the code
 pub refused-behind : (v : Numbered) (n place : ℕ) → v ≡ NumberRefused n place → place ≡ behindOf v
@@ -38,22 +39,22 @@ module _ (first second third : Numbered) where
       unfolding tripleOf
       three-given g = rw (e, f, g)
 
-module _ (posts source p q count : Numbered) where
-  pub head-stops : {r : Refusal} → tripleOf posts source p ≡ refused r → headingOf posts source p q count ≡ refused r
+module _ (form : Form) (posts source p q count : Numbered) where
+  pub head-stops : {r : Refusal} → tripleOf posts source p ≡ refused r → headingOf form posts source p q count ≡ refused r
   unfolding headingOf
   head-stops e = rw e
 
   module _ {t : Triple} {i : ℕ} (e : tripleOf posts source p ≡ got t i) where
-    pub fourth-refused : {n j : ℕ} → q ≡ NumberRefused n j → headingOf posts source p q count ≡ refused (refusal n j)
+    pub fourth-refused : {n j : ℕ} → q ≡ NumberRefused n j → headingOf form posts source p q count ≡ refused (refusal n j)
     unfolding headingOf
     fourth-refused f = rw (e, f)
 
     module _ {d j : ℕ} (f : q ≡ Number d j) where
-      pub fifth-refused : {n k : ℕ} → count ≡ NumberRefused n k → headingOf posts source p q count ≡ refused (refusal n k)
+      pub fifth-refused : {n k : ℕ} → count ≡ NumberRefused n k → headingOf form posts source p q count ≡ refused (refusal n k)
       unfolding headingOf
       fifth-refused g = rw (e, f, g)
 
-      pub five-given : {m k : ℕ} → count ≡ Number m k → headingOf posts source p q count ≡ got (record { head = record { posts = t .one; source = t .two; p = t .three; q = d }; count = m }) k
+      pub five-given : {m k : ℕ} → count ≡ Number m k → headingOf form posts source p q count ≡ got (record { head = headFrom form t d; count = m }) k
       unfolding headingOf
       five-given g = rw (e, f, g)
 
@@ -119,17 +120,31 @@ module _ (bytes : List ℕ) where
   pub segment-carried : (posts i at : ℕ) → segmentOf (tripleOf (read at) (read (on at)) (read (on (on at)))) posts i ≡ segment bytes posts i at
   segment-carried posts i at = rw (triple-carried at) (sym (segment-by bytes posts i at))
 
-  pub heading-carried : (at : ℕ) → headingOf (read at) (read (on at)) (read (on (on at))) (read (on (on (on at)))) (read (on (on (on (on at))))) ≡ heading bytes at
+  pub ratio-carried : (v at : ℕ) → ratioOf (pairOf (read at) (read (on at))) v ≡ ratio bytes v at
+  unfolding ratio hold ratioOf pairOf
+  ratio-carried v at = go₁ (number bytes at)
+    where
+      go₂ : (a i : ℕ) (g : Got ℕ) → ratioOf (pairOf (Number a i) (numberedOf g)) v
+          ≡ andThen g (λ b at. andThen (unless (first (ratioLines v (record { p = a; q = b }))) at) (λ _ at. got (record { p = a; q = b }) at))
+      go₂ a i (got b j) = refl
+      go₂ a i (refused r) = refl
+
+      go₁ : (g : Got ℕ) → ratioOf (pairOf (numberedOf g) (read (behindOf (numberedOf g)))) v
+          ≡ andThen g (λ a at. andThen (number bytes at) (λ b at. andThen (unless (first (ratioLines v (record { p = a; q = b }))) at) (λ _ at. got (record { p = a; q = b }) at)))
+      go₁ (got a i) = go₂ a i (number bytes i)
+      go₁ (refused r) = refl
+
+  pub heading-carried : (form : Form) (at : ℕ) → headingOf form (read at) (read (on at)) (read (on (on at))) (read (on (on (on at)))) (read (on (on (on (on at))))) ≡ headed bytes form at
   unfolding headingOf
-  heading-carried at = go (triple bytes at) (triple-carried at) ∙ sym (heading-by bytes at)
+  heading-carried form at = go (triple bytes at) (triple-carried at) ∙ sym (headed-by bytes form at)
     where
       with-two : Triple → ℕ → Got Heading
-      with-two t i = andThen (number bytes i) (λ q j. andThen (number bytes j) (λ m k. got (record { head = record { posts = t .one; source = t .two; p = t .three; q = q }; count = m }) k))
+      with-two t i = andThen (number bytes i) (λ q j. andThen (number bytes j) (λ m k. got (record { head = headFrom form t q; count = m }) k))
 
-      two-carried : (t : Triple) (i : ℕ) → andThen (saysNumbered (read i)) (λ q _. andThen (saysNumbered (read (on i))) (λ m k. got (record { head = record { posts = t .one; source = t .two; p = t .three; q = q }; count = m }) k)) ≡ with-two t i
-      two-carried t i = carried (λ q j. andThen (saysNumbered (read j)) (λ m k. got (record { head = record { posts = t .one; source = t .two; p = t .three; q = q }; count = m }) k)) _ i
-          (λ q j. last-carried (λ m k. got (record { head = record { posts = t .one; source = t .two; p = t .three; q = q }; count = m }) k) j)
+      two-carried : (t : Triple) (i : ℕ) → andThen (saysNumbered (read i)) (λ q _. andThen (saysNumbered (read (on i))) (λ m k. got (record { head = headFrom form t q; count = m }) k)) ≡ with-two t i
+      two-carried t i = carried (λ q j. andThen (saysNumbered (read j)) (λ m k. got (record { head = headFrom form t q; count = m }) k)) _ i
+          (λ q j. last-carried (λ m k. got (record { head = headFrom form t q; count = m }) k) j)
 
-      go : (g : Got Triple) → tripleOf (read at) (read (on at)) (read (on (on at))) ≡ g → headingOf (read at) (read (on at)) (read (on (on at))) (read (on (on (on at)))) (read (on (on (on (on at))))) ≡ andThen g with-two
+      go : (g : Got Triple) → tripleOf (read at) (read (on at)) (read (on (on at))) ≡ g → headingOf form (read at) (read (on at)) (read (on (on at))) (read (on (on (on at)))) (read (on (on (on (on at))))) ≡ andThen g with-two
       go (got t i) e = let b = triple-behind _ _ _ t i e in rw (e, b) (two-carried t i)
       go (refused r) e = rw e

@@ -3,8 +3,13 @@
 pub mod Types
 pub mod Steps
 pub mod Carried
+pub mod OneByOne
 pub mod Passes
 pub mod Turns
+pub mod Owned
+pub mod Stored
+pub mod Laid
+pub mod Stands
 pub mod Parsed
 pub mod RoundTrip
 pub mod Kept

@@ -20,10 +20,10 @@ use Rattle.net.proofs.Ready.{ready-inside, ready-source, ready-posts}
 use Rattle.trees.proofs.Ready.{ready-short}
 
 -- 9: d are the least lengths, z says which is the lowest post without one
-module _ {head : Head} {a b lengths : List ℕ} (r : Ready head a b lengths) {posts source apart : ℕ} (posts-is : posts ≡ head .posts) (source-is : source ≡ head .source) {d : List ℕ} (rest : List ℕ)
+module _ {head : Head} {p q a b lengths : List ℕ} (r : Ready head p q a b lengths) {posts source apart : ℕ} (posts-is : posts ≡ head .posts) (source-is : source ≡ head .source) {d : List ℕ} (rest : List ℕ)
     (e : d ≡ leastLengths (segmentsOf a b lengths) every posts source ++ rest) (z : LowestApart posts (note d) apart) where
   short-all : (i : ℕ) → i < length (segmentsOf a b lengths) → every i ≡ true → lengthAt (segmentsOf a b lengths) i ≤ longest
-  short-all i p q = short-segments a b lengths (r .b-level) (r .lengths-level) (ready-short r) i
+  short-all i h k = short-segments a b lengths (r .b-level) (r .lengths-level) (ready-short r) i
 
   d-is : d ≡ leastLengths (segmentsOf a b lengths) every (head .posts) (head .source) ++ rest
   d-is = e ∙ rw (posts-is, source-is)
@@ -31,16 +31,16 @@ module _ {head : Head} {a b lengths : List ℕ} (r : Ready head a b lengths) {po
   z-is : LowestApart (head .posts) (note d) apart
   z-is = rw posts-is at z
 
-  joined-same : (v : ℕ) → joinedToSource every (netAt head a b lengths) v ≡ joined (segmentsOf a b lengths) (head .posts) every (head .source) v
+  joined-same : (v : ℕ) → joinedToSource every (netAt head p q a b lengths) v ≡ joined (segmentsOf a b lengths) (head .posts) every (head .source) v
   unfolding joinedToSource
   joined-same v = refl
 
   -- "lowest such post"
-  pub table-apart : apart < posts → first (joinedLines (head .posts) (joinedToSource every (netAt head a b lengths))) ≡ some (refusal 9 apart)
-  table-apart p =
-      apart-some (segmentsOf a b lengths) every (head .posts) (ready-inside r) (head .source) (ready-source r) (ready-posts r) short-all d rest d-is apart z-is (joinedToSource every (netAt head a b lengths)) joined-same (omega arith)
+  pub table-apart : apart < posts → first (joinedLines (head .posts) (joinedToSource every (netAt head p q a b lengths))) ≡ some (refusal 9 apart)
+  table-apart h =
+      apart-some (segmentsOf a b lengths) every (head .posts) (ready-inside r) (head .source) (ready-source r) (ready-posts r) short-all d rest d-is apart z-is (joinedToSource every (netAt head p q a b lengths)) joined-same (omega arith)
 
   -- every post is joined
-  pub table-joined : posts ≤ apart → first (joinedLines (head .posts) (joinedToSource every (netAt head a b lengths))) ≡ none
-  table-joined p =
-      apart-none (segmentsOf a b lengths) every (head .posts) (ready-inside r) (head .source) (ready-source r) (ready-posts r) short-all d rest d-is apart z-is (joinedToSource every (netAt head a b lengths)) joined-same (omega arith)
+  pub table-joined : posts ≤ apart → first (joinedLines (head .posts) (joinedToSource every (netAt head p q a b lengths))) ≡ none
+  table-joined h =
+      apart-none (segmentsOf a b lengths) every (head .posts) (ready-inside r) (head .source) (ready-source r) (ready-posts r) short-all d rest d-is apart z-is (joinedToSource every (netAt head p q a b lengths)) joined-same (omega arith)

@@ -1,4 +1,5 @@
 -- Laws for the proofs of the trees, and for those of building and margin above them.
+pub mod Ratios
 pub mod Ready
 pub mod Joined
 pub mod Preparing

@@ -28,24 +28,24 @@ module _ {n : Net} {dist light short third light′ third′ : List ℕ} (w : Wo
       record { worked = w; apart = λ e. absurd (let k : _≡_ {A = ℕ} 0 1 = cc in omega arith); joined = λ {laid = x} e. let k : x ≡ laid = cc in rw k t }
 
 -- d and s are what `shortest_tree` left in two lists, z says which is the lowest post without a least length
-module _ {head : Head} {a b lengths : List ℕ} (r : Ready head a b lengths) {posts source apart : ℕ} (posts-is : posts ≡ head .posts) (source-is : source ≡ head .source)
+module _ {head : Head} {p q a b lengths : List ℕ} (r : Ready head p q a b lengths) {posts source apart : ℕ} (posts-is : posts ≡ head .posts) (source-is : source ≡ head .source)
     {d s : List ℕ} (d₀ s₀ : List ℕ) (d-long : length d₀ ≡ head .posts) (s-long : length s₀ ≡ head .posts)
     (d-is : d ≡ leastLengths (segmentsOf a b lengths) every posts source ++ drop posts d₀) (s-is : s ≡ shortest (segmentsOf a b lengths) every posts source ++ drop posts s₀)
     (z : LowestApart posts (note d) apart) where
-  worked-out : Worked (netAt head a b lengths) d s
+  worked-out : Worked (netAt head p q a b lengths) d s
   worked-out = worked-at r posts-is source-is d₀ s₀ d-long s-long d-is s-is
 
-  pub prepares-apart : apart < posts → (light third : List ℕ) → Prepares (netAt head a b lengths) light third (Apart apart) d light s third
-  prepares-apart p light third =
-      left-apart worked-out (record { nine = table-apart r posts-is source-is (drop posts d₀) d-is z p; light-kept = refl; third-kept = refl })
+  pub prepares-apart : apart < posts → (light third : List ℕ) → Prepares (netAt head p q a b lengths) light third (Apart apart) d light s third
+  prepares-apart h light third =
+      left-apart worked-out (record { nine = table-apart r posts-is source-is (drop posts d₀) d-is z h; light-kept = refl; third-kept = refl })
 
-  pub prepares-joined : posts ≤ apart → (light third : List ℕ) {laid : ℕ} {light′ third′ : List ℕ} → light′ ≡ lightestOf every (netAt head a b lengths)
-      → (laid ≡ length (laidOf every (netAt head a b lengths))) × (third′ ≡ betweenOf every (netAt head a b lengths))
-      → Prepares (netAt head a b lengths) light third (Joined laid) d light′ s third′
-  prepares-joined p light third e f =
+  pub prepares-joined : posts ≤ apart → (light third : List ℕ) {laid : ℕ} {light′ third′ : List ℕ} → light′ ≡ lightestOf every (netAt head p q a b lengths)
+      → (laid ≡ length (laidOf every (netAt head p q a b lengths))) × (third′ ≡ betweenOf every (netAt head p q a b lengths))
+      → Prepares (netAt head p q a b lengths) light third (Joined laid) d light′ s third′
+  prepares-joined h light third e f =
       left-joined worked-out
       (record {
-        none-apart = table-joined r posts-is source-is (drop posts d₀) d-is z p;
+        none-apart = table-joined r posts-is source-is (drop posts d₀) d-is z h;
         trees = record { light-is = e; short-is = worked-out .tree-is; third-is = f .1 };
         laid-is = f .0;
       })

@@ -5,10 +5,10 @@ use mathlib.Core.List.{List, _++_, append-nil}
 use Prim.Native.Nat.{ℕ, _≤_, _<_}
 use native.Mathlib.Omega.{arith}
 use native.Mathlib.Nat.{le-refl}
-use lib.ListN.{length, getD, take, drop, replicate, drop-of-length-le, getD-replicate}
-use Rattle.net.specs.Net.{every, segmentsOf}
+use lib.ListN.{length, getD, take, drop, replicate, drop-of-length-le}
+use Rattle.net.specs.Net.{ownOf, ratiosOf, every, segmentsOf}
 use Rattle.net.specs.Trees.{noneYet, at, belonging, lightest, leastLengths, shortest}
-use Rattle.net.specs.Building.{lightestOf, shortestOf, leastLengthsOf, walkOf, betweenOf, laidOf}
+use Rattle.net.specs.Building.{pOf, qOf, lightestOf, shortestOf, leastLengthsOf, walkOf, betweenOf, laidOf}
 use Rattle.net.specs.declared.Head.{Head}
 use Rattle.net.proofs.Least.{inside-part}
 use Rattle.hanging.specs.Lists.{Ends, Short}
@@ -24,7 +24,10 @@ use Rattle.between.specs.Asked.{Walkable, walkedOf, ThirdTree}
 use Rattle.between.proofs.Nets.{walked-of-net, net-walkable, length-lengths, least-low}
 use Rattle.net.specs.Ready.{netAt, Ready}
 use Rattle.net.proofs.Ready.{ready-count, ready-few, ready-posts, ready-inside}
+use Rattle.net.proofs.Own.{all-own, post-ratio-sound}
+use Rattle.trees.specs.Ratios.{numbersFor}
 use Rattle.trees.specs.Worked.{AllThere, Worked}
+use Rattle.trees.proofs.Ratios.{number-p, number-q, numbers-at, numbers-long}
 
 -- m marks that are all true
 pub all-there : (m : ℕ) → m ≤ 2048 → AllThere (take m (replicate 2048 true)) m
@@ -42,7 +45,7 @@ index-at e z = rw e z
 pub front-only : (n : ℕ) (g l t : List ℕ) → length l ≡ n → t ≡ g ++ drop n l → t ≡ g
 front-only n g l t e f = let k : length l ≤ n = omega arith in f ∙ rw (drop-of-length-le l k) (append-nil g)
 
-module _ {head : Head} {a b lengths : List ℕ} (r : Ready head a b lengths) where
+module _ {head : Head} {p q a b lengths : List ℕ} (r : Ready head p q a b lengths) where
   pub ready-ends : Ends (head .posts) a b every
   ready-ends =
       let s = segments-are a b lengths (r .b-level) (r .lengths-level) in
@@ -55,21 +58,6 @@ module _ {head : Head} {a b lengths : List ℕ} (r : Ready head a b lengths) whe
 
   level-at : Level a b lengths
   level-at = record { b-level = r .b-level; lengths-level = r .lengths-level }
-
-  -- a list of one number for all posts
-  house-at : (x v : ℕ) → v < head .posts → getD (replicate 256 x) v 0 ≡ x
-  house-at x v h = getD-replicate 256 v x 0 (omega (arith, ready-posts r))
-
-  house-ratios : Ratios (head .posts) (replicate 256 (head .p)) (replicate 256 (head .q))
-  house-ratios =
-      let h = r .sound .head-sound in
-      record {
-        p-long = omega (arith, ready-posts r);
-        q-long = omega (arith, ready-posts r);
-        p-most = λ v k. omega (arith, house-at (head .p) v k, h .small-p);
-        q-most = λ v k. omega (arith, house-at (head .q) v k, h .small-q);
-        q-some = λ v k. omega (arith, house-at (head .q) v k, h .some-q);
-      }
 
   pub ready-short : Short lengths
   ready-short =
@@ -96,7 +84,7 @@ module _ {head : Head} {a b lengths : List ℕ} (r : Ready head a b lengths) whe
 
     module _ {source : ℕ} (source-is : source ≡ head .source) where
       -- the lightest tree by these is the net's
-      pub lightest-at : {t : List ℕ} → t ≡ lightest (segmentsOf a b lengths) every posts source → t ≡ lightestOf every (netAt head a b lengths)
+      pub lightest-at : {t : List ℕ} → t ≡ lightest (segmentsOf a b lengths) every posts source → t ≡ lightestOf every (netAt head p q a b lengths)
       unfolding lightestOf
       lightest-at e = e ∙ rw (posts-is, source-is)
 
@@ -104,7 +92,7 @@ module _ {head : Head} {a b lengths : List ℕ} (r : Ready head a b lengths) whe
       pub worked-at : {d t : List ℕ} (d₀ t₀ : List ℕ) → length d₀ ≡ head .posts → length t₀ ≡ head .posts
           → d ≡ leastLengths (segmentsOf a b lengths) every posts source ++ drop posts d₀
           → t ≡ shortest (segmentsOf a b lengths) every posts source ++ drop posts t₀
-          → Worked (netAt head a b lengths) d t
+          → Worked (netAt head p q a b lengths) d t
       unfolding leastLengthsOf shortestOf
       worked-at {d} {t} d₀ t₀ k l e f =
           record {
@@ -112,31 +100,49 @@ module _ {head : Head} {a b lengths : List ℕ} (r : Ready head a b lengths) whe
             tree-is = rw (posts-is, source-is) at (front-only posts (shortest (segmentsOf a b lengths) every posts source) t₀ t (l ∙ sym posts-is) f);
           }
 
-  module _ {source : ℕ} (source-is : source ≡ head .source) {dist short : List ℕ} (w : Worked (netAt head a b lengths) dist short) where
+  module _ {source : ℕ} (source-is : source ≡ head .source) {dist short : List ℕ} (w : Worked (netAt head p q a b lengths) dist short) where
     pub dist-long : length dist ≡ head .posts
-    dist-long = ap length (w .lengths-are) ∙ length-lengths (length (segmentsOf a b lengths)) head a b lengths level-at (le-refl _) (r .sound)
+    dist-long = ap length (w .lengths-are) ∙ length-lengths (length (segmentsOf a b lengths)) head (ownOf head (ratiosOf p q)) a b lengths level-at (le-refl _) (r .sound)
 
-    -- the third tree at the house ratio: what is asked, and what is left
-    pub walkable-at : Walkable source (replicate 256 (head .p)) (replicate 256 (head .q)) a b lengths short dist
-    walkable-at =
-        rw (source-is, w .lengths-are, w .tree-is)
-        (net-walkable (length (segmentsOf a b lengths)) head a b lengths level-at (le-refl _) (r .sound) (replicate 256 (head .p)) (replicate 256 (head .q)) house-ratios)
+    -- the third tree at each post's ratio: what is asked, and what is left
+    module _ (enough : head .posts ≤ length (ratiosOf p q)) {x y : List ℕ} (l m : List ℕ) (x-is : x ≡ numbersFor head (head .p) p ++ drop (head .posts) l) (y-is : y ≡ numbersFor head (head .q) q ++ drop (head .posts) m) where
+      x-at : (v : ℕ) → v < head .posts → getD x v 0 ≡ pOf (netAt head p q a b lengths) v
+      x-at v h = numbers-at head (head .p) p l x-is v h ∙ number-p head p q (segmentsOf a b lengths) enough v h
 
-    pub third-at : {light : List ℕ} → light ≡ lightestOf every (netAt head a b lengths) → {laid : ℕ} {t : List ℕ} → ThirdTree source (replicate 256 (head .p)) (replicate 256 (head .q)) a b lengths light short dist laid t
-        → (laid ≡ length (laidOf every (netAt head a b lengths))) × (t ≡ betweenOf every (netAt head a b lengths))
-    unfolding laidOf betweenOf
-    third-at {light} light-is {laid} {t} z =
-        let walked-at : walkedOf source (replicate 256 (head .p)) (replicate 256 (head .q)) a b lengths light short dist ≡ walkOf every (netAt head a b lengths) =
-        rw (source-is, light-is, w .lengths-are, w .tree-is) (walked-of-net (length (segmentsOf a b lengths)) head a b lengths level-at (le-refl _) (r .sound) (replicate 256 (head .p)) (replicate 256 (head .q)) house-ratios (house-at (head .p)) (house-at (head .q))) in
-        (rw walked-at at (z .count), rw walked-at at (z .tree))
+      y-at : (v : ℕ) → v < head .posts → getD y v 0 ≡ qOf (netAt head p q a b lengths) v
+      y-at v h = numbers-at head (head .q) q m y-is v h ∙ number-q head p q (segmentsOf a b lengths) enough v h
+
+      each-ratio : Ratios (head .posts) x y
+      each-ratio =
+          let s = post-ratio-sound (netAt head p q a b lengths) every (length (segmentsOf a b lengths)) (r .sound) (all-own head (ratiosOf p q) (segmentsOf a b lengths) enough) in
+          record {
+            p-long = numbers-long head (head .p) p l x-is;
+            q-long = numbers-long head (head .q) q m y-is;
+            p-most = λ v k. omega (arith, x-at v k, s v k .small-p);
+            q-most = λ v k. omega (arith, y-at v k, s v k .small-q);
+            q-some = λ v k. omega (arith, y-at v k, s v k .some-q);
+          }
+
+      pub walkable-at : Walkable source x y a b lengths short dist
+      walkable-at =
+          rw (source-is, w .lengths-are, w .tree-is)
+          (net-walkable (length (segmentsOf a b lengths)) head (ownOf head (ratiosOf p q)) a b lengths level-at (le-refl _) (r .sound) x y each-ratio)
+
+      pub third-at : {light : List ℕ} → light ≡ lightestOf every (netAt head p q a b lengths) → {laid : ℕ} {t : List ℕ} → ThirdTree source x y a b lengths light short dist laid t
+          → (laid ≡ length (laidOf every (netAt head p q a b lengths))) × (t ≡ betweenOf every (netAt head p q a b lengths))
+      unfolding laidOf betweenOf
+      third-at {light} light-is {laid} {t} z =
+          let walked-at : walkedOf source x y a b lengths light short dist ≡ walkOf every (netAt head p q a b lengths) =
+          rw (source-is, light-is, w .lengths-are, w .tree-is) (walked-of-net (length (segmentsOf a b lengths)) head (ownOf head (ratiosOf p q)) a b lengths level-at (le-refl _) (r .sound) x y each-ratio x-at y-at) in
+          (rw walked-at at (z .count), rw walked-at at (z .tree))
 
   -- the least length of a post
-  module _ {dist short : List ℕ} (w : Worked (netAt head a b lengths) dist short) (post : ℕ) (h : post < length dist) where
-    pub least-at : getD dist post 0 ≡ at (leastLengthsOf every (netAt head a b lengths)) post
+  module _ {dist short : List ℕ} (w : Worked (netAt head p q a b lengths) dist short) (post : ℕ) (h : post < length dist) where
+    pub least-at : getD dist post 0 ≡ at (leastLengthsOf every (netAt head p q a b lengths)) post
     least-at = getD-any dist post 0 noneYet h ∙ ap (λ (l : List ℕ). at l post) (w .lengths-are)
 
     -- no least length is above "none yet"
     pub least-small : getD dist post 0 ≤ noneYet
     least-small =
-        let z = least-low (length (segmentsOf a b lengths)) head a b lengths level-at (le-refl _) (r .sound) post in
+        let z = least-low (length (segmentsOf a b lengths)) head (ownOf head (ratiosOf p q)) a b lengths level-at (le-refl _) (r .sound) post in
         omega (arith, least-at, z)

@@ -37,7 +37,7 @@ pub record Held (n s : ℕ) (a b lengths : List ℕ) : Type 0 where
   pub few : length (segmentsOf a b lengths) ≤ noSegment
   pub below : s < n
 
-pub held : {head : Head} {a b lengths : List ℕ} {n s : ℕ} → Ready head a b lengths → n ≡ head .posts → s ≡ head .source → Held n s a b lengths
+pub held : {head : Head} {p q a b lengths : List ℕ} {n s : ℕ} → Ready head p q a b lengths → n ≡ head .posts → s ≡ head .source → Held n s a b lengths
 held r e f =
     rw (e, f)
     (record {

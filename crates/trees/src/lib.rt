@@ -1,18 +1,22 @@
-// The three trees of a net that nothing from 1 to 7 refuses, from its head by value and its segments as three slices
-// side by side: the one preparation that building and margin share (`all_trees`). The segments that belong come from
-// `lightest`, and a walk along them hangs the lightest tree; the other two trees come from `shortest` and `between`.
-// Stands below `building` and `margins`; asks what `checks` has shown (`Ready`).
+// The three trees of a net that nothing from 1 to 8 refuses, from its head by value, its posts' own ratios as two
+// slices side by side and its segments as three: the one preparation that building and margin share (`all_trees`). The
+// segments that belong come from `lightest`, and a walk along them hangs the lightest tree; the other two trees come
+// from `shortest` and `between`. Which ratio is a post's is said here (`number_for`). Stands below `building` and
+// `margins`; asks what `checks` has shown (`Ready`), and a ratio for each post.
+use net::Form;
 use net::Head;
 ghost use mathlib.Core.Path.{_≡_};
 ghost use mathlib.Core.Bool.{true, false};
 ghost use Prim.Native.Nat.{ℕ, _<_, _≤_};
-ghost use lib.ListN.{length as size};
+ghost use mathlib.Core.List.{_++_};
+ghost use lib.ListN.{length as size, drop};
 ghost use Rattle.net.specs.Net.{every, mostPosts};
 ghost use Rattle.net.specs.Building.{lightestOf, betweenOf, laidOf};
-ghost use Rattle.net.specs.Ready.{netBy, Ready};
+ghost use Rattle.net.specs.Ready.{netBy, ratioCountBy, Ready};
 ghost use Rattle.hanging.specs.Lists.{flag, Ends};
 ghost use Rattle.shortest.specs.Rows.{IndexOf};
 ghost use Rattle.trees.specs.Worked.{AllThere, Worked, Prepares};
+ghost use Rattle.trees.specs.Ratios.{Plain, plainBy, numberFor, numbersFor};
 ghost use Rattle.trees.specs.Along.{Across, Reaching, Begun, Stepped, Grows, Crossed};
 
 // "Posts 1 to 256": the lists to work in have as many places.
@@ -130,11 +134,11 @@ fn lightest_by(
     marks: &mut [bool],
     tree: &mut [u16],
 )
-    requires { ⌜ Ready head (now a) (now b) (now lengths) ⌝ }
+    requires { ⌜ Plain head (now a) (now b) (now lengths) ⌝ }
     requires { ⌜ IndexOf (head .posts) (now a) (now b) (now first) (now next) ⌝ }
     requires { ⌜ AllThere (now present) (size (now a)) × (size (now marks) ≡ size (now a))
         × (size (now tree) ≡ head .posts) ⌝ }
-    ensures { λ _. ⌜ now (tree .exit) ≡ lightestOf every (netBy head (a .entry) (b .entry) (lengths .entry)) ⌝ }
+    ensures { λ _. ⌜ now (tree .exit) ≡ lightestOf every (plainBy head (a .entry) (b .entry) (lengths .entry)) ⌝ }
 {
     let posts = index_of(head.posts);
     let source = index_of(head.source);
@@ -171,10 +175,10 @@ fn lightest_tree(
     next: &[u16],
     tree: &mut [u16],
 )
-    requires { ⌜ Ready head (now a) (now b) (now lengths) ⌝ }
+    requires { ⌜ Plain head (now a) (now b) (now lengths) ⌝ }
     requires { ⌜ IndexOf (head .posts) (now a) (now b) (now first) (now next) ⌝ }
     requires { ⌜ size (now tree) ≡ head .posts ⌝ }
-    ensures { λ _. ⌜ now (tree .exit) ≡ lightestOf every (netBy head (a .entry) (b .entry) (lengths .entry)) ⌝ }
+    ensures { λ _. ⌜ now (tree .exit) ≡ lightestOf every (plainBy head (a .entry) (b .entry) (lengths .entry)) ⌝ }
 {
     let m = a.len();
     let present = [true; net::MOST_SEGMENTS];
@@ -192,9 +196,45 @@ fn lightest_tree(
     );
 }
 
-// The third tree of a net, from its least lengths and its other two trees; answers how many direct paths were laid.
+// THE RATIO OF A POST. One of its two numbers, p or q: `house` is that of the house ratio, `own` has the posts' own.
+// "The house ratio, kept and checked, rules only nets of the first form"; the source's place in `own` is not read.
+pub fn number_for(head: Head, house: u32, own: &[u32], v: usize) -> u32
+    requires { ⌜ v < size (now own) ⌝ }
+    ensures ruling { λ r. ⌜ r ≡ numberFor head house (now (own .entry)) v ⌝ }
+{
+    let form = head.form;
+    match form {
+        Form::First => house,
+        Form::Second => {
+            if v == index_of(head.source) {
+                house
+            } else {
+                own[v]
+            }
+        }
+    }
+}
+
+// That number for each post, into the front of a list.
+fn put_numbers(head: Head, house: u32, own: &[u32], list: &mut [u32])
+    requires { ⌜ (head .posts ≤ size (now own)) × (head .posts ≤ size (now list)) ⌝ }
+    ensures { λ _. ⌜ now (list .exit)
+        ≡ numbersFor head house (now (own .entry)) ++ drop (head .posts) (now (list .entry)) ⌝ }
+{
+    let posts = index_of(head.posts);
+    let mut v = 0;
+    while v < posts {
+        list[v] = number_for(head, house, own, v);
+        v += 1;
+    }
+}
+
+// The third tree of a net, at each post's ratio, from its least lengths and its other two trees; answers how many
+// direct paths were laid.
 fn third_tree(
     head: Head,
+    p: &[u32],
+    q: &[u32],
     a: &[u16],
     b: &[u16],
     lengths: &[u32],
@@ -203,21 +243,39 @@ fn third_tree(
     short: &[u16],
     tree: &mut [u16],
 ) -> u32
-    requires { ⌜ Ready head (now a) (now b) (now lengths) × (size (now tree) ≡ head .posts) ⌝ }
-    requires { ⌜ Worked (netBy head a b lengths) (now dist) (now short)
-        × (now light ≡ lightestOf every (netBy head a b lengths)) ⌝ }
-    ensures { λ r. ⌜ r ≡ size (laidOf every (netBy head (a .entry) (b .entry) (lengths .entry))) ⌝ }
-    ensures { λ _. ⌜ now (tree .exit) ≡ betweenOf every (netBy head (a .entry) (b .entry) (lengths .entry)) ⌝ }
+    requires { ⌜ Ready head (now p) (now q) (now a) (now b) (now lengths) × (head .posts ≤ ratioCountBy p q) ⌝ }
+    requires { ⌜ size (now tree) ≡ head .posts ⌝ }
+    requires { ⌜ Worked (netBy head p q a b lengths) (now dist) (now short)
+        × (now light ≡ lightestOf every (netBy head p q a b lengths)) ⌝ }
+    ensures { λ r. ⌜ r
+        ≡ size (laidOf every (netBy head (p .entry) (q .entry) (a .entry) (b .entry) (lengths .entry))) ⌝ }
+    ensures { λ _. ⌜ now (tree .exit)
+        ≡ betweenOf every (netBy head (p .entry) (q .entry) (a .entry) (b .entry) (lengths .entry)) ⌝ }
 {
     let source = index_of(head.source);
-    let p = [head.p; net::POST_PLACES];
-    let q = [head.q; net::POST_PLACES];
-    between::third_tree(source, &p, &q, a, b, lengths, light, short, dist, tree)
+    let mut each_p = [0u32; net::POST_PLACES];
+    let mut each_q = [0u32; net::POST_PLACES];
+    put_numbers(head, head.p, p, &mut each_p);
+    put_numbers(head, head.q, q, &mut each_q);
+    between::third_tree(
+        source,
+        &each_p,
+        &each_q,
+        a,
+        b,
+        lengths,
+        light,
+        short,
+        dist,
+        tree,
+    )
 }
 
 // The preparation by the net's index: the search and the walk go along it.
 fn trees_by(
     head: Head,
+    p: &[u32],
+    q: &[u32],
     a: &[u16],
     b: &[u16],
     lengths: &[u32],
@@ -228,11 +286,11 @@ fn trees_by(
     short: &mut [u16],
     third: &mut [u16],
 ) -> Prepared
-    requires { ⌜ Ready head (now a) (now b) (now lengths) ⌝ }
+    requires { ⌜ Ready head (now p) (now q) (now a) (now b) (now lengths) × (head .posts ≤ ratioCountBy p q) ⌝ }
     requires { ⌜ IndexOf (head .posts) (now a) (now b) (now first) (now next) ⌝ }
     requires { ⌜ (size (now dist) ≡ head .posts) × (size (now light) ≡ head .posts)
         × (size (now short) ≡ head .posts) × (size (now third) ≡ head .posts) ⌝ }
-    ensures { λ r. ⌜ Prepares (netBy head (a .entry) (b .entry) (lengths .entry))
+    ensures { λ r. ⌜ Prepares (netBy head (p .entry) (q .entry) (a .entry) (b .entry) (lengths .entry))
         (now (light .entry)) (now (third .entry)) r
         (now (dist .exit)) (now (light .exit)) (now (short .exit)) (now (third .exit)) ⌝ }
 {
@@ -245,14 +303,17 @@ fn trees_by(
         return Prepared::Apart(lowest);
     }
     lightest_tree(head, a, b, lengths, first, next, light);
-    let laid = third_tree(head, a, b, lengths, dist, light, short, third);
+    let laid = third_tree(head, p, q, a, b, lengths, dist, light, short, third);
     Prepared::Joined(laid)
 }
 
 // THE PREPARATION. The least lengths and the three trees of a net, each into a lent list with one entry for each post,
-// and the count of laid paths; or the lowest post that isn't joined, and then only `dist` and `short` are written.
+// and the count of laid paths; or the lowest post that isn't joined, and then only `dist` and `short` are written. The
+// lists p and q have a place for each post.
 pub fn all_trees(
     head: Head,
+    p: &[u32],
+    q: &[u32],
     a: &[u16],
     b: &[u16],
     lengths: &[u32],
@@ -261,10 +322,10 @@ pub fn all_trees(
     short: &mut [u16],
     third: &mut [u16],
 ) -> Prepared
-    requires { ⌜ Ready head (now a) (now b) (now lengths) ⌝ }
+    requires { ⌜ Ready head (now p) (now q) (now a) (now b) (now lengths) × (head .posts ≤ ratioCountBy p q) ⌝ }
     requires { ⌜ (size (now dist) ≡ head .posts) × (size (now light) ≡ head .posts)
         × (size (now short) ≡ head .posts) × (size (now third) ≡ head .posts) ⌝ }
-    ensures prepared { λ r. ⌜ Prepares (netBy head (a .entry) (b .entry) (lengths .entry))
+    ensures prepared { λ r. ⌜ Prepares (netBy head (p .entry) (q .entry) (a .entry) (b .entry) (lengths .entry))
         (now (light .entry)) (now (third .entry)) r
         (now (dist .exit)) (now (light .exit)) (now (short .exit)) (now (third .exit)) ⌝ }
 {
@@ -274,6 +335,8 @@ pub fn all_trees(
     shortest::index(posts, a, b, &mut first, &mut next);
     trees_by(
         head,
+        p,
+        q,
         a,
         b,
         lengths,

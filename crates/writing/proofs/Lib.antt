@@ -2,7 +2,8 @@
 -- the proofs of the functions, those two and the laws of `reading` stand on.
 pub mod Lines
 pub mod Puts
+pub mod Posts
 pub mod Sizes
-pub mod Writes
 pub mod RuledWriting
 pub mod Outcomes
+pub mod Writes

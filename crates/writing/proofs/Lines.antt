@@ -1,12 +1,12 @@
--- 1 to 4 of a head and 5 to 7 of a segment as the writer and the reader (of `reading`) meet them: net's laws of the two tables, over what `first` gives, and
+-- 1 to 4 of a head, 3 of a post's own ratio and 5 to 7 of a segment as the writer and the reader (of `reading`) meet them: net's laws of the three tables, over what `first` gives, and
 -- what a check's answer says of its lines.
 use Prim.Native.Nat.{ℕ, _≤_}
 use mathlib.Core.Path.{_≡_, refl, sym}
 use mathlib.Core.Option.{Option, none, some}
 use native.Mathlib.Omega.{arith}
-use Rattle.net.specs.Net.{mostSegments}
-use Rattle.net.specs.Refusals.{first, headLines, segmentLines, checkedOf}
-use Rattle.net.specs.Rules.{HeadSound, SegmentSound, HeadRule, SegmentRule}
+use Rattle.net.specs.Net.{Ratio, mostSegments}
+use Rattle.net.specs.Refusals.{first, headLines, ratioLines, segmentLines, checkedOf}
+use Rattle.net.specs.Rules.{HeadSound, RatioSound, SegmentSound, HeadRule, RatioRule, SegmentRule}
 use Rattle.net.specs.declared.Segment.{Segment}
 use Rattle.net.specs.declared.Head.{Head}
 use Rattle.net.specs.declared.Refusal.{Refusal}
@@ -25,6 +25,17 @@ module _ (h : Head) (m : ℕ) where
   -- a head that is not refused is sound
   pub head-sound : first (headLines h m) ≡ none → HeadSound h × (m ≤ mostSegments)
   head-sound e = F.head-sound h m (first-is e)
+
+module _ (r : Ratio) (v : ℕ) where
+  pub ratio-only : {o : Option Refusal} → RatioRule r v o → first (ratioLines v r) ≡ o
+  ratio-only k = sym (first-only (F.ratio-first r v k))
+
+  pub ratio-rule : RatioRule r v (first (ratioLines v r))
+  ratio-rule = F.ratio-rule r v (first-of (ratioLines v r))
+
+  -- a ratio that is not refused is sound
+  pub ratio-sound : first (ratioLines v r) ≡ none → RatioSound r
+  ratio-sound e = F.ratio-sound r v (first-is e)
 
 module _ (posts : ℕ) (s : Segment) (i : ℕ) where
   pub segment-only : {r : Option Refusal} → SegmentRule posts s i r → first (segmentLines posts s i) ≡ r

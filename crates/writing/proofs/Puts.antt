@@ -12,7 +12,7 @@ use Rattle.net.specs.declared.Segment.{Segment}
 use Rattle.net.specs.declared.Head.{Head}
 use Rattle.numbers.specs.Numbers.{written}
 use Rattle.numbers.specs.Putting.{onto, put}
-use Rattle.writing.specs.Writing.{headWritten, segmentWritten, segmentsWritten, SegmentFits, SegmentsFit}
+use Rattle.writing.specs.Writing.{formWritten, numbersWritten, headWritten, segmentWritten, segmentsWritten, SegmentFits, SegmentsFit}
 
 module _ (l u : List ℕ) (at : ℕ) (within : at + length u ≤ length l) where
   front : length (take at l ++ u) ≡ at + length u
@@ -74,14 +74,18 @@ module _ {l w x : List ℕ} {at next : ℕ} (r : Wrote l at w x next) where
   wrote-as e = rw e at r
 
 -- A HEAD, A SEGMENT, SEGMENTS: the lengths and the runs of which they are made
-pub head-length : (h : Head) (count : ℕ) → length (headWritten h count)
+pub numbers-length : (h : Head) (count : ℕ) → length (numbersWritten h count)
     ≡ length (written (h .posts)) + length (written (h .source)) + length (written (h .p)) + length (written (h .q)) + length (written count)
-unfolding headWritten
-head-length h count = simp length-append (omega arith)
+unfolding numbersWritten
+numbers-length h count = simp length-append (omega arith)
 
-pub head-runs : (h : Head) (count : ℕ) → written (h .posts) ++ written (h .source) ++ written (h .p) ++ written (h .q) ++ written count ≡ headWritten h count
+pub head-length : (h : Head) (count : ℕ) → length (headWritten h count) ≡ length (formWritten (h .form)) + length (numbersWritten h count)
 unfolding headWritten
-head-runs h count = simp append-assoc
+head-length h count = length-append (formWritten (h .form)) (numbersWritten h count)
+
+pub numbers-runs : (h : Head) (count : ℕ) → written (h .posts) ++ written (h .source) ++ written (h .p) ++ written (h .q) ++ written count ≡ numbersWritten h count
+unfolding numbersWritten
+numbers-runs h count = simp append-assoc
 
 pub segment-length : (s : Segment) → length (segmentWritten s) ≡ length (written (s .a)) + length (written (s .b)) + length (written (s .length))
 unfolding segmentWritten
@@ -138,21 +142,21 @@ segment-put s p q h e₁ r₁ e₂ r₂ e₃ r₃ =
     wrote-as w₃ (segment-runs s)
 
 -- a head's numbers
-pub head-put : (h : Head) (count : ℕ) {l x₁ x₂ x₃ x₄ x₅ : List ℕ} {i₁ i₂ i₃ i₄ i₅ : ℕ} → length (headWritten h count) ≤ length l
-    → i₁ ≡ 0 + length (written (h .posts)) → x₁ ≡ put 0 (written (h .posts)) l
+pub head-put : (h : Head) (count : ℕ) {l x₁ x₂ x₃ x₄ x₅ : List ℕ} {at i₁ i₂ i₃ i₄ i₅ : ℕ} → at + length (numbersWritten h count) ≤ length l
+    → i₁ ≡ at + length (written (h .posts)) → x₁ ≡ put at (written (h .posts)) l
     → i₂ ≡ i₁ + length (written (h .source)) → x₂ ≡ put i₁ (written (h .source)) x₁
     → i₃ ≡ i₂ + length (written (h .p)) → x₃ ≡ put i₂ (written (h .p)) x₂
     → i₄ ≡ i₃ + length (written (h .q)) → x₄ ≡ put i₃ (written (h .q)) x₃
     → i₅ ≡ i₄ + length (written count) → x₅ ≡ put i₄ (written count) x₄
-    → Wrote l 0 (headWritten h count) x₅ i₅
+    → Wrote l at (numbersWritten h count) x₅ i₅
 head-put h count long e₁ r₁ e₂ r₂ e₃ r₃ e₄ r₄ e₅ r₅ =
-    let n = head-length h count in
+    let n = numbers-length h count in
     let w₁ = wrote-first (written (h .posts)) (omega arith) e₁ r₁ in
     let w₂ = wrote-more w₁ (written (h .source)) (omega arith) e₂ r₂ in
     let w₃ = wrote-more w₂ (written (h .p)) (omega arith) e₃ r₃ in
     let w₄ = wrote-more w₃ (written (h .q)) (omega arith) e₄ r₄ in
     let w₅ = wrote-more w₄ (written count) (omega arith) e₅ r₅ in
-    wrote-as w₅ (head-runs h count)
+    wrote-as w₅ (numbers-runs h count)
 
 -- THE LOOP OVER THE SEGMENTS: the first i of them are put into the room
 pub record PutTo (room₀ : List ℕ) (at : ℕ) (ss : List Segment) (room : List ℕ) (next i : ℕ) : Type 0 where

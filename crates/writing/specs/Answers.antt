@@ -21,8 +21,8 @@ abbrev pub writeAnswerBy : Option Refusal → ℕ → WriteAnswer
 writeAnswerBy none size = Written size
 writeAnswerBy (some r) size = WriteRefused r
 
-unfoldable pub writeAnswerOf : Net → ℕ → ℕ → WriteAnswer
-writeAnswerOf n m room = writeAnswerBy (writeRefusal n m room) (length (netWritten n))
+unfoldable pub writeAnswerOf : Net → ℕ → ℕ → ℕ → WriteAnswer
+writeAnswerOf n m k room = writeAnswerBy (writeRefusal n m k room) (length (netWritten n))
 
 abbrev pub saidSize : Option Refusal → ℕ → Said ℕ
 saidSize none size = result size
@@ -33,6 +33,6 @@ saysWritten (Written size) = result size
 saysWritten (WriteRefused r) = refusal-of r
 
 -- what writing does: the answer, and the room afterwards
-pub record Writes (n : Net) (m : ℕ) (room : List ℕ) (answer : WriteAnswer) (after : List ℕ) : Type 0 where
-  pub answers : answer ≡ writeAnswerOf n m (length room)
-  pub leaves : after ≡ roomAfter n m room
+pub record Writes (n : Net) (m k : ℕ) (room : List ℕ) (answer : WriteAnswer) (after : List ℕ) : Type 0 where
+  pub answers : answer ≡ writeAnswerOf n m k (length room)
+  pub leaves : after ≡ roomAfter n m k room

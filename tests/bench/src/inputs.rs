@@ -63,7 +63,7 @@ fn length((ax, ay): (u32, u32), (bx, by): (u32, u32)) -> u32 {
     (ax.abs_diff(bx) + ay.abs_diff(by)).max(1)
 }
 
-/// A joined net of posts at random places on a square frame: first a random tree, or
+/// A joined net of the first form, of posts at random places on a square frame: first a random tree, or
 /// a chain, then segments between posts of which one is, mostly, near the other.
 fn net_on_frame(random: &mut Random, size: Size) -> Net {
     let places: Vec<(u32, u32)> = (0..size.posts)
@@ -95,6 +95,7 @@ fn net_on_frame(random: &mut Random, size: Size) -> Net {
         source: random.below(size.posts),
         p: random.pick(&[1, 1, 2, 3]),
         q: random.pick(&[2, 4, 4, 8]),
+        own: None,
         segments,
     }
 }

@@ -1,4 +1,5 @@
-//! Document 01 in plain Rust tuned for speed, to measure the library against.
+//! Document 01, with the own ratios of Req 01, in plain Rust tuned for speed, to
+//! measure the library against.
 //!
 //! The lightest tree by sorting and joining (path halving), the least lengths by
 //! Dijkstra's method with a binary heap, the walk without recursion. All memory
@@ -34,9 +35,19 @@ impl Segment {
     }
 }
 
-/// The five head numbers.
+/// A ratio's p and q.
+type Ratio = (u32, u32);
+
+#[inline]
+fn is_ratio((p, q): Ratio) -> bool {
+    p <= MOST_RATIO && q.wrapping_sub(1) < MOST_RATIO
+}
+
+/// The five head numbers, and whether a number 0 stands before them: each post
+/// but the source then has a ratio of its own.
 #[derive(Clone, Copy, Default)]
 struct Head {
+    second_form: bool,
     posts: u32,
     source: u32,
     p: u32,
@@ -83,8 +94,11 @@ impl Reader<'_> {
     }
 
     fn head(&mut self) -> Result<Head, Refusal> {
+        let first = self.number()?;
+        let second_form = first == 0;
         let head = Head {
-            posts: self.number()?,
+            second_form,
+            posts: if second_form { self.number()? } else { first },
             source: self.number()?,
             p: self.number()?,
             q: self.number()?,
@@ -94,7 +108,7 @@ impl Reader<'_> {
             1
         } else if head.source >= head.posts {
             2
-        } else if head.p > MOST_RATIO || head.q.wrapping_sub(1) >= MOST_RATIO {
+        } else if !is_ratio((head.p, head.q)) {
             3
         } else if head.segments as usize > MOST_SEGMENTS {
             4
@@ -102,6 +116,15 @@ impl Reader<'_> {
             return Ok(head);
         };
         Err(Refusal::new(refused, 0))
+    }
+
+    fn ratio(&mut self, post: u32) -> Result<Ratio, Refusal> {
+        let ratio = (self.number()?, self.number()?);
+        if is_ratio(ratio) {
+            Ok(ratio)
+        } else {
+            Err(Refusal::new(3, post as usize))
+        }
     }
 
     #[inline]
@@ -221,6 +244,8 @@ struct Step {
 #[derive(Default)]
 pub struct Planner {
     head: Head,
+    /// In the second form each post's own ratio; the source's is never looked at.
+    own: Vec<Ratio>,
     segments: Vec<Segment>,
     keys: Vec<u32>,
     parts: Vec<u16>,
@@ -243,6 +268,10 @@ impl Planner {
     pub fn check(&mut self, record: &[u8]) -> Result<(), Refusal> {
         let mut reader = Reader { record, at: 0 };
         self.head = reader.head()?;
+        self.own.clear();
+        if self.head.second_form {
+            self.read_own(&mut reader)?;
+        }
         self.segments.clear();
         for number in 0..self.head.segments as usize {
             let segment = reader.segment(self.head.posts, number)?;
@@ -254,28 +283,42 @@ impl Planner {
         Ok(())
     }
 
+    /// Reads the own ratio of each post but the source.
+    fn read_own(&mut self, reader: &mut Reader) -> Result<(), Refusal> {
+        for post in 0..self.head.posts {
+            let none = post == self.head.source;
+            self.own
+                .push(if none { (0, 1) } else { reader.ratio(post)? });
+        }
+        Ok(())
+    }
+
+    /// The numbers of the record before the segments.
+    fn start(&self) -> impl Iterator<Item = u32> + '_ {
+        let head = self.head;
+        let own = (0..).zip(&self.own);
+        (head.second_form.then_some(0).into_iter())
+            .chain([head.posts, head.source, head.p, head.q, head.segments])
+            .chain(
+                own.filter(move |&(post, _)| post != head.source)
+                    .flat_map(|(_, &(p, q))| [p, q]),
+            )
+    }
+
     /// Reads a record and writes it into the room.
     pub fn rewrite(&mut self, record: &[u8], room: &mut [u8]) -> Result<usize, Refusal> {
         self.check(record)?;
-        let Head {
-            posts,
-            source,
-            p,
-            q,
-            segments,
-        } = self.head;
-        let head = [posts, source, p, q, segments];
         // Nothing may be written into room that is too short.
         let body: usize = self
             .segments
             .iter()
             .map(|s| bytes_of(s.a.into()) + bytes_of(s.b.into()) + bytes_of(s.length))
             .sum();
-        if room.len() < body + head.map(bytes_of).iter().sum::<usize>() {
+        if room.len() < body + self.start().map(bytes_of).sum::<usize>() {
             return Err(Refusal::new(18, 0));
         }
         let mut at = 0;
-        for number in head {
+        for number in self.start() {
             at = put_number(room, at, number)?;
         }
         for segment in &self.segments {
@@ -326,6 +369,7 @@ impl Planner {
             p,
             q,
             segments,
+            ..
         } = self.head;
         *summary = [
             posts, segments, source, p, q, light.0, light.1, short.0, short.1, middle.0, middle.1,
@@ -425,7 +469,7 @@ impl Planner {
     ) -> (Measure, u32) {
         let posts = lightest.len();
         let source = self.head.source as usize;
-        let (q, p_and_q) = (u64::from(self.head.q), u64::from(self.head.p + self.head.q));
+        let house = (self.head.p, self.head.q);
         let (mut whole, mut radius, mut laid) = (0, 0, 0);
         between.fill(SOURCE_ENTRY);
         self.notes.clear();
@@ -470,7 +514,9 @@ impl Planner {
             self.paths[child] = self.paths[v] + segment.length;
             radius = radius.max(self.paths[child]);
             attempt(&mut self.notes, between, child, v, number, segment.length);
-            if q * u64::from(self.notes[child]) > p_and_q * u64::from(self.least[child]) {
+            let (p, q) = self.own.get(child).copied().unwrap_or(house);
+            let limit = u64::from(p + q) * u64::from(self.least[child]);
+            if u64::from(q) * u64::from(self.notes[child]) > limit {
                 self.lay(child, shortest, between);
                 laid += 1;
             }

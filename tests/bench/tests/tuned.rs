@@ -21,6 +21,7 @@ fn reference_plan(record: &[u8], mut lists: [Vec<u16>; 3]) -> Result<Built, Refu
         p,
         q,
         segments,
+        ..
     } = net;
     let mut summary = [
         posts,

@@ -2,10 +2,13 @@
 
 use generate::records::every_cut;
 use generate::{
-    any_damaged, any_net, damaged, encode, net_of, special_nets, spoil, Damage, Fault, Random,
-    Shape,
+    any_damaged, any_net, damaged, encode, net_of, special_nets, spoil, worked_nets, Damage, Fault,
+    Random, Shape,
 };
-use reference::worked::{net_a, net_b, net_c, two_posts, RECORD_A};
+use reference::worked::{
+    built_of_second_form, net_a, net_a_own, net_b, net_c, two_posts, RECORD_A,
+    REFUSED_OF_SECOND_FORM,
+};
 use reference::Net;
 
 /// Whether a case's record is that of a sound net, or a damaged one.
@@ -41,9 +44,17 @@ fn net_of_wide_numbers() -> Net {
     Net::new(256, 255, (10_000, 9_999), &list)
 }
 
-/// The inputs that are always the same: the worked and the special nets; the
-/// worked records and one of wide numbers, cut at each byte; net A's with each
-/// byte changed; each fault of a net and each kind of damage.
+/// A net of the second form whose own ratios take as many bytes as they can.
+fn net_of_wide_ratios() -> Net {
+    let list = [(0, 1, 1_048_575), (1, 3, 16_384), (2, 3, 300)];
+    let own = [(10_000, 128), (128, 10_000), (0, 300)];
+    Net::new(4, 2, (10_000, 9_999), &list).with_own(&own)
+}
+
+/// The inputs that are always the same: the worked nets and the records worked
+/// for Req 01; the special nets; the worked records and one of wide numbers, of
+/// both forms, cut at each byte; net A's of both forms with each byte changed;
+/// each fault of a net and each kind of damage.
 pub fn fixed_cases() -> Vec<Case> {
     let mut cases = Vec::new();
     let mut add = |kind, record: Vec<u8>| {
@@ -55,21 +66,43 @@ pub fn fixed_cases() -> Vec<Case> {
             random: Random::for_case(0, number as u64),
         });
     };
-    for net in special_nets() {
-        add(Kind::Net, encode(&net));
+    let worked = worked_nets();
+    for net in &worked {
+        add(Kind::Net, encode(net));
+    }
+    for (record, ..) in REFUSED_OF_SECOND_FORM {
+        add(Kind::Damaged, record.to_vec());
+    }
+    // The special nets begin with those that are worked.
+    for net in special_nets().iter().skip(worked.len()) {
+        add(Kind::Net, encode(net));
     }
     let wide = net_of_wide_numbers();
-    add(Kind::Net, encode(&wide));
-    for net in [net_a((1, 1)), net_b(), net_c(), two_posts(), wide] {
+    let wide_own = net_of_wide_ratios();
+    for net in [&wide, &wide_own] {
+        add(Kind::Net, encode(net));
+    }
+    for net in [
+        net_a((1, 1)),
+        net_b(),
+        net_c(),
+        two_posts(),
+        wide,
+        net_a_own((1, 1), [(1, 1), (0, 1), (9, 1)]),
+        wide_own,
+    ] {
         for cut in every_cut(&encode(&net)) {
             add(Kind::Damaged, cut.to_vec());
         }
     }
-    for at in 0..RECORD_A.len() {
-        for byte in [0, 1, 3, 4, 5, 127, 128, 129, 255] {
-            let mut record = RECORD_A.to_vec();
-            record[at] = byte;
-            add(Kind::Damaged, record);
+    let (second, _) = built_of_second_form().swap_remove(1);
+    for record in [&RECORD_A[..], &second] {
+        for at in 0..record.len() {
+            for byte in [0, 1, 3, 4, 5, 127, 128, 129, 255] {
+                let mut record = record.to_vec();
+                record[at] = byte;
+                add(Kind::Damaged, record);
+            }
         }
     }
     let mut random = Random::new(0);

@@ -12,6 +12,7 @@ use crate::run::Difference;
 pub struct Counts {
     nets: u64,
     damaged: u64,
+    second_form: u64,
     built: u64,
     /// How many margins were compared.
     pub margins: u64,
@@ -21,12 +22,13 @@ pub struct Counts {
 }
 
 impl Counts {
-    /// Counts a record.
-    pub fn record(&mut self, kind: Kind) {
+    /// Counts a record; one of the second form begins with 0.
+    pub fn record(&mut self, kind: Kind, record: &[u8]) {
         match kind {
             Kind::Net => self.nets += 1,
             Kind::Damaged => self.damaged += 1,
         }
+        self.second_form += u64::from(record.first() == Some(&0));
     }
 
     /// Counts an answer that was right and, if it is one, the refusal in it.
@@ -50,6 +52,7 @@ impl Counts {
     pub fn add(&mut self, other: Counts) {
         self.nets += other.nets;
         self.damaged += other.damaged;
+        self.second_form += other.second_form;
         self.built += other.built;
         self.margins += other.margins;
         self.runs += other.runs;
@@ -72,6 +75,7 @@ impl Counts {
             .map(|(number, count)| format!("{number}: {count}"))
             .collect();
         println!("refusals met: {}", refused.join(", "));
+        println!("{} records of the second form", self.second_form);
         println!("bounds hold on the trees of {} built nets", self.built);
         if self.margins + self.runs > 0 {
             println!("{} margins, {} drawn runs", self.margins, self.runs);

@@ -8,10 +8,10 @@
 
 use generate::{drawn, encode, lent, special_nets, Random};
 use reference::net::MOST_LENGTH;
-use reference::record::LONGEST_RECORD;
+use reference::record::{LONGEST_FIRST_FORM, LONGEST_RECORD};
 use reference::{
-    build, drawn_length, program_output, read, three_trees, write_into, Net, Refusal, Run, Tree,
-    Trees,
+    build, drawn_length, program_output, read, three_trees, write_into, Form, Net, Refusal, Run,
+    Tree, Trees,
 };
 
 use crate::cases::Case;
@@ -144,7 +144,8 @@ impl<F: Functions> Library<F> {
         }
     }
 
-    /// The same where a call is dear: without every length that can be drawn.
+    /// The same where a call is dear: without every length that can be drawn, and
+    /// with the cuts of the second form's longest record only.
     pub fn dear(functions: F) -> Self {
         Library {
             functions,
@@ -317,16 +318,18 @@ impl<F: Functions> Library<F> {
         }
     }
 
-    /// The longest good record cut at each byte, and whole: checked only.
-    fn cut_lot(&self) -> Lot<'_> {
+    /// The longest good record of this form cut at each byte, and whole: checked
+    /// only.
+    fn cut_lot(&self, form: Form, length: usize) -> Lot<'_> {
         let longest = special_nets()
             .iter()
+            .filter(|net| net.form() == form)
             .map(encode)
             .max_by_key(Vec::len)
             .expect("there are some");
-        assert_eq!(longest.len(), LONGEST_RECORD);
+        assert_eq!(longest.len(), length);
         Lot {
-            name: "cuts of the longest record".to_owned(),
+            name: format!("cuts of the longest record of its form ({form:?})"),
             count: longest.len() + 1,
             compare: Box::new(move |number, counts| {
                 let record = &longest[..number];
@@ -366,8 +369,9 @@ impl<F: Functions> Subject for Library<F> {
         let mut lots = vec![self.border_lot()];
         if self.every_length {
             lots.push(self.length_lot());
+            lots.push(self.cut_lot(Form::First, LONGEST_FIRST_FORM));
         }
-        lots.push(self.cut_lot());
+        lots.push(self.cut_lot(Form::Second, LONGEST_RECORD));
         lots
     }
 

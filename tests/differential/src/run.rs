@@ -108,7 +108,7 @@ pub trait Subject: Sync {
 fn compare_case(subject: &dyn Subject, case: Case, counts: &mut Counts) -> Result<(), Found> {
     match subject.compare(&case, counts) {
         Ok(()) => {
-            counts.record(case.kind);
+            counts.record(case.kind, &case.record);
             Ok(())
         }
         Err(difference) => Err(Found::on_record(case.name, case.record, difference)),

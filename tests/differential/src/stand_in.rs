@@ -1,7 +1,9 @@
 //! The library's functions made from the reference, to test the comparison of a
 //! library without one. They can make a slip on purpose.
 
-use reference::slips::{drawn_by_refusal, slipped_trees, Slip};
+use reference::slips::{
+    drawn_by_refusal, house_margin, slipped_read, slipped_record, slipped_trees, LentSlip, Slip,
+};
 use reference::{
     build, drawn_length, margin, program_output, read, three_trees, write_into, Net, Refusal, Run,
     Tree,
@@ -12,8 +14,8 @@ use crate::functions::{nothing_or_refusal, number_or_refusal, summary, Functions
 /// Something for the stand-in to do wrong.
 #[derive(Clone, Copy, Debug, PartialEq, Eq)]
 enum Fault {
-    /// A slip in the walk that makes the third tree.
-    Walk(Slip),
+    /// A slip in reading, or in the walk that makes the third tree.
+    Slipped(Slip),
     /// Checking accepts every record.
     Accepting,
     /// Planning writes an entry beyond the post count.
@@ -28,8 +30,12 @@ enum Fault {
     Spilt,
     /// Writing marks a refusal as if it were a length.
     Unmarked,
+    /// Writing has a ratio for the source too.
+    SourceWritten,
     /// A margin has the other sign.
     Turned,
+    /// A margin goes by the house ratio, whatever the form.
+    HouseMargin,
     /// A tree's number above 2 is taken for the lightest tree.
     OtherTree,
     /// A drawn length is one too long.
@@ -42,7 +48,7 @@ enum Fault {
     Silent,
 }
 
-const FAULTS: [Fault; 13] = [
+const FAULTS: [Fault; 15] = [
     Fault::Accepting,
     Fault::Beyond,
     Fault::Touched,
@@ -50,7 +56,9 @@ const FAULTS: [Fault; 13] = [
     Fault::WholeSummary,
     Fault::Spilt,
     Fault::Unmarked,
+    Fault::SourceWritten,
     Fault::Turned,
+    Fault::HouseMargin,
     Fault::OtherTree,
     Fault::Long,
     Fault::NotANumber,
@@ -67,15 +75,22 @@ impl StandIn {
     /// The stand-in that does wrong what is named, and nothing if the name is
     /// that of no slip.
     pub fn with_slip(name: &str) -> Self {
-        let walk = Slip::named(name).map(Fault::Walk);
+        let slipped = Slip::named(name).map(Fault::Slipped);
         let named = |fault: &Fault| format!("{fault:?}") == name;
         StandIn {
-            fault: walk.or(FAULTS.into_iter().find(named)),
+            fault: slipped.or(FAULTS.into_iter().find(named)),
         }
     }
 
     fn does(&self, fault: Fault) -> bool {
         self.fault == Some(fault)
+    }
+
+    fn read(&self, record: &[u8]) -> Result<Net, Refusal> {
+        match self.fault {
+            Some(Fault::Slipped(slip)) => slipped_read(record, slip),
+            _ => read(record),
+        }
     }
 
     fn build(&self, net: &Net, lists: [&mut [u16]; 3], out: &mut [u32]) -> Result<(), Refusal> {
@@ -87,7 +102,7 @@ impl StandIn {
         if self.does(Fault::WholeSummary) && out.len() < 12 {
             return Err(Refusal::new(8, 0));
         }
-        if let Some(Fault::Walk(slip)) = self.fault {
+        if let Some(Fault::Slipped(slip)) = self.fault {
             let (trees, greatest_note) = slipped_trees(net, &three_trees(net)?, slip);
             between[..trees.between.len()].copy_from_slice(&trees.between);
             built = trees.built(net);
@@ -106,6 +121,29 @@ impl StandIn {
         Ok(())
     }
 
+    fn write(&self, net: &Net, room: &mut [u8]) -> Result<usize, Refusal> {
+        if !self.does(Fault::SourceWritten) {
+            return write_into(net, room);
+        }
+        let record = slipped_record(net, LentSlip::SourceWritten);
+        let part = room.get_mut(..record.len());
+        part.ok_or(Refusal::new(18, 0))?.copy_from_slice(&record);
+        Ok(record.len())
+    }
+
+    fn margin_of(&self, net: &Net, post: u32, which: Tree) -> Result<i64, Refusal> {
+        let margin = if self.does(Fault::HouseMargin) {
+            house_margin(net, &three_trees(net)?, post, which)?
+        } else {
+            margin(net, post, which)?
+        };
+        Ok(if self.does(Fault::Turned) {
+            -margin
+        } else {
+            margin
+        })
+    }
+
     fn drawn_length(&self, run: Run) -> Result<u64, Refusal> {
         let length = match run {
             Run::Straight(length) if self.does(Fault::NotANumber) => drawn_by_refusal(length),
@@ -121,7 +159,7 @@ impl Functions for StandIn {
     }
 
     fn check(&self, record: &[u8]) -> u64 {
-        match read(record) {
+        match self.read(record) {
             Err(_) if self.does(Fault::Accepting) => 0,
             answer => nothing_or_refusal(answer.map(|_| ())),
         }
@@ -141,11 +179,12 @@ impl Functions for StandIn {
             }
         }
         let lists = [lightest, shortest, between];
-        nothing_or_refusal(read(record).and_then(|net| self.build(&net, lists, summary)))
+        let net = self.read(record);
+        nothing_or_refusal(net.and_then(|net| self.build(&net, lists, summary)))
     }
 
     fn rewrite(&self, record: &[u8], room: &mut [u8]) -> u64 {
-        let length = read(record).and_then(|net| write_into(&net, room));
+        let length = self.read(record).and_then(|net| self.write(&net, room));
         match length {
             Ok(length) if self.does(Fault::Spilt) => {
                 if let Some(byte) = room.get_mut(length) {
@@ -166,14 +205,11 @@ impl Functions for StandIn {
             _ if self.does(Fault::OtherTree) => Tree::Lightest,
             _ => Tree::Between,
         };
-        let margin = read(record).and_then(|net| margin(&net, post, which));
+        let net = self.read(record);
+        let margin = net.and_then(|net| self.margin_of(&net, post, which));
         nothing_or_refusal(margin.map(|margin| {
             if let Some(first) = out.first_mut() {
-                *first = if self.does(Fault::Turned) {
-                    -margin
-                } else {
-                    margin
-                };
+                *first = margin;
             }
         }))
     }

@@ -34,6 +34,7 @@ fn the_reference_equals_itself() {
     assert!(text.contains("seed 8003 (fixed): 300 equal"), "{text}");
     assert!(text.contains("seed 5 (clock): 300 equal"), "{text}");
     assert!(text.contains(": all equal"), "{text}");
+    assert!(text.contains(" records of the second form"), "{text}");
     for number in [1, 2, 3, 4, 5, 6, 7, 9, 10, 11, 12] {
         assert!(text.contains(&format!(" {number}: ")), "{number}: {text}");
     }
@@ -46,6 +47,13 @@ fn every_slip_is_caught() {
         "NoTryBack",
         "ScaledInnerTest",
         "LaidAtEquality",
+        "HouseWalk",
+        "MisplacedRatios",
+        "SourceRatio",
+        "LateRatio",
+        "RatioAtZero",
+        "ZeroPosts",
+        "FewBytes",
         "Silent",
         "Cut",
         "Crash",
@@ -166,6 +174,13 @@ fn every_slip_of_the_functions_is_caught() {
         ("ScaledInnerTest", "drover_plan"),
         ("LaidAtEquality", "drover_plan"),
         ("TriedAtEquality", "drover_plan"),
+        ("HouseWalk", "drover_plan"),
+        ("MisplacedRatios", "drover_rewrite"),
+        ("SourceRatio", "drover_check"),
+        ("LateRatio", "drover_check"),
+        ("RatioAtZero", "drover_check"),
+        ("ZeroPosts", "drover_check"),
+        ("FewBytes", "drover_check"),
         ("Accepting", "drover_check"),
         ("Beyond", "drover_plan"),
         ("Touched", "drover_plan"),
@@ -173,7 +188,9 @@ fn every_slip_of_the_functions_is_caught() {
         ("WholeSummary", "drover_plan"),
         ("Spilt", "drover_rewrite"),
         ("Unmarked", "drover_rewrite"),
+        ("SourceWritten", "drover_rewrite"),
         ("Turned", "drover_margin"),
+        ("HouseMargin", "drover_margin"),
         ("OtherTree", "drover_margin"),
         ("Long", "drover_drawn"),
         ("NotANumber", "drover_drawn"),

@@ -1,7 +1,7 @@
 //! Nets spoilt so that they are refused, each fault for one refusal number.
 
 use reference::net::{MOST_LENGTH, MOST_POSTS, MOST_RATIO, MOST_SEGMENTS};
-use reference::{Net, Segment};
+use reference::{Net, Ratio, Segment};
 
 use crate::random::Random;
 
@@ -20,6 +20,12 @@ pub enum Fault {
     LargeP,
     /// q above 10,000.
     LargeQ,
+    /// q of a post's own ratio is 0.
+    OwnNoQ,
+    /// p of a post's own ratio above 10,000.
+    OwnLargeP,
+    /// q of a post's own ratio above 10,000.
+    OwnLargeQ,
     /// More than 2,048 segments.
     ManySegments,
     /// A segment's end not below the post count.
@@ -36,13 +42,16 @@ pub enum Fault {
 
 impl Fault {
     /// All of them.
-    pub const ALL: [Fault; 12] = [
+    pub const ALL: [Fault; 15] = [
         Fault::NoPosts,
         Fault::ManyPosts,
         Fault::Source,
         Fault::NoQ,
         Fault::LargeP,
         Fault::LargeQ,
+        Fault::OwnNoQ,
+        Fault::OwnLargeP,
+        Fault::OwnLargeQ,
         Fault::ManySegments,
         Fault::End,
         Fault::SameEnds,
@@ -58,6 +67,7 @@ impl Fault {
             Fault::NoPosts | Fault::ManyPosts => 1,
             Fault::Source => 2,
             Fault::NoQ | Fault::LargeP | Fault::LargeQ => 3,
+            Fault::OwnNoQ | Fault::OwnLargeP | Fault::OwnLargeQ => 3,
             Fault::ManySegments => 4,
             Fault::End => 5,
             Fault::SameEnds => 6,
@@ -91,16 +101,47 @@ fn any_segment<'n>(random: &mut Random, net: &'n mut Net) -> &'n mut Segment {
     &mut net.segments[number]
 }
 
+/// The net's own ratios; in the first form each post is given the house ratio
+/// first.
+pub fn own_of(net: &mut Net) -> &mut Vec<Ratio> {
+    let house = net.house();
+    let count = net.posts.clamp(1, MOST_POSTS) - 1;
+    net.own.get_or_insert_with(|| vec![house; count as usize])
+}
+
+/// Any post's own ratio; one is added first if there is none.
+fn any_own<'n>(random: &mut Random, net: &'n mut Net) -> &'n mut Ratio {
+    let own = own_of(net);
+    if own.is_empty() {
+        own.push(Ratio::new(1, 1));
+    }
+    let number = random.index(own.len());
+    &mut own[number]
+}
+
 /// Puts this fault into the net, whatever else is wrong with it.
 pub fn spoil(random: &mut Random, net: &mut Net, fault: Fault) {
     let posts = net.posts;
     match fault {
-        Fault::NoPosts => net.posts = 0,
+        Fault::NoPosts => {
+            // A record says so only in the second form.
+            own_of(net);
+            net.posts = 0;
+        }
         Fault::ManyPosts => net.posts = above(random, MOST_POSTS),
         Fault::Source => net.source = above(random, posts.max(1) - 1),
         Fault::NoQ => net.q = 0,
         Fault::LargeP => net.p = above(random, MOST_RATIO),
         Fault::LargeQ => net.q = above(random, MOST_RATIO),
+        Fault::OwnNoQ => any_own(random, net).q = 0,
+        Fault::OwnLargeP => {
+            let p = above(random, MOST_RATIO);
+            any_own(random, net).p = p;
+        }
+        Fault::OwnLargeQ => {
+            let q = above(random, MOST_RATIO);
+            any_own(random, net).q = q;
+        }
         Fault::ManySegments => {
             any_segment(random, net);
             while net.segments.len() <= MOST_SEGMENTS {
@@ -134,6 +175,9 @@ pub fn spoil(random: &mut Random, net: &mut Net, fault: Fault) {
         Fault::Unjoined => {
             if posts < MOST_POSTS && random.chance(1, 3) {
                 net.posts += 1;
+                if net.own.is_some() {
+                    own_of(net).resize(posts as usize, Ratio::new(1, 1));
+                }
             } else {
                 let apart = random.below(posts.max(1));
                 if apart != net.source {

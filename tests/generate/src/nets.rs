@@ -1,13 +1,14 @@
-//! Sound nets of many shapes, lengths and ratios.
+//! Sound nets of both forms, and of many shapes, lengths and ratios.
 //!
 //! Every shape but [`Shape::Unjoined`] gives nets whose posts are all joined to
 //! the source.
 
+use std::collections::HashSet;
 use std::iter;
 
-use reference::net::{MOST_LENGTH, MOST_POSTS, MOST_RATIO, MOST_SEGMENTS};
+use reference::net::{posts_but, MOST_LENGTH, MOST_POSTS, MOST_RATIO, MOST_SEGMENTS};
 use reference::trees::{least_lengths, lightest, path};
-use reference::{Net, Segment};
+use reference::{read, worked, Net, Ratio, Segment};
 
 use crate::random::Random;
 
@@ -344,13 +345,18 @@ fn common_divisor(a: u64, b: u64) -> u64 {
     }
 }
 
-/// A ratio at which some post's path in the lightest tree is exactly at the
-/// limit, or p is one off that; `None` where the numbers are too large.
-fn border_ratio(random: &mut Random, net: &Net) -> Option<(u32, u32)> {
+/// For each post of a joined net how far its path in the lightest tree is above
+/// D, and D.
+fn overs(net: &Net) -> Vec<(u64, u64)> {
     let tree = lightest(net);
-    let post = random.below(net.posts);
-    let least = least_lengths(net)[post as usize];
-    let over = path(net, &tree, post)? - least;
+    let paths = (0..net.posts).map(|post| path(net, &tree, post).expect("reached"));
+    let least = least_lengths(net);
+    paths.zip(least).map(|(path, d)| (path - d, d)).collect()
+}
+
+/// A ratio at which a post that is so far above D is exactly at the limit, or p
+/// is one off that; `None` where the numbers are too large.
+fn border_ratio(random: &mut Random, (over, least): (u64, u64)) -> Option<Ratio> {
     // At the limit (p + q) × D = q × path, so p / q = (path - D) / D.
     let divisor = common_divisor(over, least);
     if divisor == 0 {
@@ -368,17 +374,44 @@ fn border_ratio(random: &mut Random, net: &Net) -> Option<(u32, u32)> {
         1 => (p * times + 1).min(MOST_RATIO),
         _ => p * times,
     };
-    Some((p, q * times))
+    Some(Ratio::new(p, q * times))
 }
 
-/// A ratio for a net that is joined.
-fn ratio(random: &mut Random, net: &Net) -> (u32, u32) {
-    match random.below(10) {
+/// A ratio for a post that is so far above D.
+fn ratio(random: &mut Random, over: (u64, u64)) -> Ratio {
+    let (p, q) = match random.below(10) {
         0..=2 => random.pick(&NOTED_RATIOS),
-        3..=5 => border_ratio(random, net).unwrap_or((1, 3)),
+        3..=5 => return border_ratio(random, over).unwrap_or(Ratio::new(1, 3)),
         6 => (random.from_to(0, MOST_RATIO), random.from_to(1, MOST_RATIO)),
         7 => (random.from_to(0, 2_000), MOST_RATIO),
         _ => (random.from_to(0, 8), random.from_to(1, 12)),
+    };
+    Ratio::new(p, q)
+}
+
+/// A ratio for a post of a joined net, any of them.
+fn any_ratio(random: &mut Random, overs: &[(u64, u64)]) -> Ratio {
+    let over = random.pick(overs);
+    ratio(random, over)
+}
+
+/// Own ratios for the posts but the source of a joined net: each by its own
+/// path, or all alike, or one of two, or all but a few loose, or all as the
+/// house ratio.
+fn own_ratios(random: &mut Random, net: &Net, overs: &[(u64, u64)]) -> Vec<Ratio> {
+    let posts = posts_but(net.source, net.posts);
+    let [first, second] = [0; 2].map(|_| any_ratio(random, overs));
+    let loose = Ratio::new(MOST_RATIO, random.pick(&[1, MOST_RATIO]));
+    match random.below(8) {
+        0 => posts.map(|_| net.house()).collect(),
+        1 => posts.map(|_| first).collect(),
+        2 | 3 => posts.map(|_| random.pick(&[first, second])).collect(),
+        4 => posts
+            .map(|_| random.pick(&[loose, loose, loose, first]))
+            .collect(),
+        _ => posts
+            .map(|post| ratio(random, overs[post as usize]))
+            .collect(),
     }
 }
 
@@ -396,7 +429,7 @@ fn set_apart(random: &mut Random, net: &mut Net) {
         .retain(|segment| apart[segment.a as usize] == apart[segment.b as usize]);
 }
 
-/// A sound net of this shape.
+/// A sound net of this shape, as often of the second form as of the first.
 pub fn net_of(random: &mut Random, shape: Shape) -> Net {
     let (posts, segments) = parts_of(random, shape);
     let from_the_start = matches!(shape, Shape::Spokes | Shape::Express);
@@ -410,10 +443,16 @@ pub fn net_of(random: &mut Random, shape: Shape) -> Net {
         source,
         p: 1,
         q: 1,
+        own: None,
         segments,
     };
     disguise(random, &mut net);
-    (net.p, net.q) = ratio(random, &net);
+    let overs = overs(&net);
+    let house = any_ratio(random, &overs);
+    (net.p, net.q) = (house.p, house.q);
+    if random.chance(1, 2) {
+        net.own = Some(own_ratios(random, &net, &overs));
+    }
     if shape == Shape::Unjoined {
         set_apart(random, &mut net);
     }
@@ -439,8 +478,59 @@ pub fn any_net(random: &mut Random) -> Net {
     net_of(random, shape)
 }
 
-/// Nets at the ends of what is allowed, always the same.
+/// The net in the second form, each post with the next of the noted ratios, from
+/// this one on.
+fn with_noted_ratios(net: &Net, first: usize) -> Net {
+    let noted = NOTED_RATIOS.into_iter().cycle().skip(first);
+    let own = posts_but(net.source, net.posts).zip(noted);
+    let list: Vec<(u32, u32)> = own.map(|(_, ratio)| ratio).collect();
+    net.clone().with_own(&list)
+}
+
+/// The nets that are worked by hand, of both forms.
+pub fn worked_nets() -> Vec<Net> {
+    let mut nets = vec![
+        worked::net_a((1, 1)),
+        worked::net_a((0, 1)),
+        worked::net_a((7, 5)),
+        worked::net_a((6, 5)),
+        worked::net_a((2, 2)),
+        worked::net_b(),
+        worked::net_c(),
+        worked::one_post(),
+        worked::two_posts(),
+        worked::two_posts_apart(),
+    ];
+    for (record, _) in worked::built_of_second_form() {
+        nets.push(read(&record).expect("good"));
+    }
+    nets.push(worked::net_a_turned([(9, 1), (0, 1), (1, 1)]));
+    nets
+}
+
+/// The nets that are worked, and then nets at the ends of what is allowed, always
+/// the same: of the first form, and each of them with own ratios, but once
+/// whatever its house ratio.
 pub fn special_nets() -> Vec<Net> {
+    let mut nets = worked_nets();
+    let largest = largest_nets();
+    let mut seen = HashSet::new();
+    let once = nets
+        .iter()
+        .chain(&largest)
+        .filter(|net| seen.insert((net.posts, net.source, &net.segments)));
+    let with_own: Vec<Net> = (0..)
+        .zip(once)
+        .map(|(number, net)| with_noted_ratios(net, number))
+        .collect();
+    nets.extend(largest);
+    nets.extend(with_own);
+    nets.push(worked::longest_net());
+    nets
+}
+
+/// Nets of the first form at the ends of what is allowed.
+fn largest_nets() -> Vec<Net> {
     let whole = |posts: u32, source, ratio, list: Vec<(u32, u32, u32)>| {
         Net::new(posts, source, ratio, &list)
     };
@@ -454,20 +544,9 @@ pub fn special_nets() -> Vec<Net> {
             .map(move |post| (0, post, length))
             .collect::<Vec<_>>()
     };
-    let mut nets = vec![
-        reference::worked::net_a((1, 1)),
-        reference::worked::net_a((0, 1)),
-        reference::worked::net_a((7, 5)),
-        reference::worked::net_a((6, 5)),
-        reference::worked::net_a((2, 2)),
-        reference::worked::net_b(),
-        reference::worked::net_c(),
-        reference::worked::one_post(),
-        reference::worked::two_posts(),
-        reference::worked::two_posts_apart(),
-    ];
-    // The longest good record. Posts below 128 have no segment, so it is refused
-    // in building.
+    let mut nets = Vec::new();
+    // The longest good record of the first form. Posts below 128 have no
+    // segment, so it is refused in building.
     let longest = vec![(128, 255, MOST_LENGTH); MOST_SEGMENTS];
     nets.push(whole(256, 255, (MOST_RATIO, MOST_RATIO), longest));
     for ratio in NOTED_RATIOS {

@@ -1,9 +1,10 @@
 //! Records of nets, and damaged ones.
 
+use reference::net::MOST_RATIO;
 use reference::record::{number_bytes, numbers, MOST_GROUPS};
-use reference::Net;
+use reference::{Form, Net};
 
-use crate::faults::{spoil, Fault};
+use crate::faults::{own_of, spoil, Fault};
 use crate::random::Random;
 
 /// What is done to a record.
@@ -33,6 +34,13 @@ pub enum Damage {
     HighCount,
     /// The segment count is below the number of segments that follow.
     LowCount,
+    /// The record has a first number 0 too many, or lacks it.
+    OtherForm,
+    /// A record of the second form has one own ratio too few, or too many.
+    OtherRatios,
+    /// A post's own p is above 10,000, and the record ends before its q or
+    /// inside it, or q isn't in its shortest form.
+    LargeAndCut,
     /// The net has a fault.
     Unsound,
     /// The net has two faults.
@@ -47,7 +55,7 @@ pub enum Damage {
 
 impl Damage {
     /// All of them.
-    pub const ALL: [Damage; 17] = [
+    pub const ALL: [Damage; 20] = [
         Damage::Cut,
         Damage::Extra,
         Damage::Padded,
@@ -60,6 +68,9 @@ impl Damage {
         Damage::Swapped,
         Damage::HighCount,
         Damage::LowCount,
+        Damage::OtherForm,
+        Damage::OtherRatios,
+        Damage::LargeAndCut,
         Damage::Unsound,
         Damage::TwiceUnsound,
         Damage::UnsoundAndDamaged,
@@ -106,13 +117,63 @@ fn any_number(random: &mut Random) -> u32 {
     }
 }
 
-/// A place in a list of this many numbers; often in the head.
-fn any_place(random: &mut Random, count: usize) -> usize {
-    if random.chance(1, 2) {
-        random.index(5)
-    } else {
-        random.index(count)
+/// How many numbers the head of a net's record has.
+fn head_numbers(net: &Net) -> usize {
+    match net.form() {
+        Form::First => 5,
+        Form::Second => 6,
     }
+}
+
+/// A place among the numbers of a net's record; often in the head, and often in
+/// the own ratios.
+fn any_place(random: &mut Random, net: &Net) -> usize {
+    let head = head_numbers(net);
+    let own = net.own.as_ref().map_or(0, |own| 2 * own.len());
+    match random.below(4) {
+        0 => random.index(head),
+        1 if own > 0 => head + random.index(own),
+        1 => random.index(head),
+        _ => random.index(numbers(net).len()),
+    }
+}
+
+/// The net in the second form, with the house ratio for each post if it isn't.
+fn in_second_form(net: &Net) -> Net {
+    let mut net = net.clone();
+    own_of(&mut net);
+    net
+}
+
+/// The record of a net in the second form with one own ratio too few or too
+/// many.
+fn with_other_ratios(random: &mut Random, net: &Net) -> Vec<u8> {
+    let mut net = in_second_form(net);
+    let house = net.house();
+    let own = own_of(&mut net);
+    if own.is_empty() || random.chance(1, 2) {
+        let at = random.index(own.len() + 1);
+        let any = own.first().copied().unwrap_or(house);
+        own.insert(at, any);
+    } else {
+        own.remove(random.index(own.len()));
+    }
+    encode(&net)
+}
+
+/// The record of a net in the second form up to a post's own p, which is too
+/// large, with a q after it that is missing, cut or padded.
+fn large_and_cut(random: &mut Random, net: &Net) -> Vec<u8> {
+    let net = in_second_form(net);
+    let own = net.own.as_ref().map_or(0, Vec::len);
+    let post = random.index(own.max(1));
+    let mut list = numbers(&net);
+    list.truncate(6 + 2 * post);
+    list.push(random.from_to(MOST_RATIO + 1, MOST_RATIO + 9));
+    let mut record: Vec<u8> = list.into_iter().flat_map(number_bytes).collect();
+    let endings: [&[u8]; 5] = [&[], &[128], &[255, 128], &[128, 0], &[129, 128, 0, 1]];
+    record.extend(random.pick(&endings));
+    record
 }
 
 /// The record with the bytes of one number put in place of another's.
@@ -137,10 +198,14 @@ fn with_fault(random: &mut Random, net: &Net, faults: usize) -> Net {
     net
 }
 
-/// A long record: the longest head and 2,047 segments of seven bytes each, and
-/// then any ending.
+/// A long record of either form: the longest head, the longest own ratios and
+/// 2,047 segments of seven bytes each, and then any ending.
 fn long(random: &mut Random) -> Vec<u8> {
     let mut numbers = vec![256, 255, 10_000, 10_000, 2_048];
+    if random.chance(1, 2) {
+        numbers.insert(0, 0);
+        numbers.extend([MOST_RATIO; 510]);
+    }
     for number in 0..2_047 {
         numbers.extend([128 + number % 127, 255, 1_048_575]);
     }
@@ -171,13 +236,13 @@ pub fn damaged(random: &mut Random, net: &Net, damage: Damage) -> Vec<u8> {
             }
         }
         Damage::Padded => {
-            let place = any_place(random, list.len());
+            let place = any_place(random, net);
             if let Some(bytes) = padded(random, list[place]) {
                 record = with_bytes_at(&list, place, &bytes);
             }
         }
         Damage::Endless | Damage::EndlessCut => {
-            let place = any_place(random, list.len());
+            let place = any_place(random, net);
             let bytes = endless(random);
             record = with_bytes_at(&list, place, &bytes);
             if damage == Damage::EndlessCut {
@@ -186,7 +251,7 @@ pub fn damaged(random: &mut Random, net: &Net, damage: Damage) -> Vec<u8> {
             }
         }
         Damage::Replaced => {
-            let place = any_place(random, list.len());
+            let place = any_place(random, net);
             let bytes = number_bytes(any_number(random));
             record = with_bytes_at(&list, place, &bytes);
         }
@@ -205,18 +270,28 @@ pub fn damaged(random: &mut Random, net: &Net, damage: Damage) -> Vec<u8> {
         }
         Damage::Swapped => {
             let mut list = list;
-            let (first, second) = (any_place(random, list.len()), random.index(list.len()));
+            let (first, second) = (any_place(random, net), random.index(list.len()));
             list.swap(first, second);
             record = list.into_iter().flat_map(number_bytes).collect();
         }
         Damage::HighCount => {
-            let count = list[4] + random.pick(&[1, 1, 2, 30, 2_048]);
-            record = with_bytes_at(&list, 4, &number_bytes(count));
+            let place = head_numbers(net) - 1;
+            let count = list[place] + random.pick(&[1, 1, 2, 30, 2_048]);
+            record = with_bytes_at(&list, place, &number_bytes(count));
         }
         Damage::LowCount => {
-            let count = list[4].saturating_sub(random.pick(&[1, 1, 2, 30]));
-            record = with_bytes_at(&list, 4, &number_bytes(count));
+            let place = head_numbers(net) - 1;
+            let count = list[place].saturating_sub(random.pick(&[1, 1, 2, 30]));
+            record = with_bytes_at(&list, place, &number_bytes(count));
         }
+        Damage::OtherForm => match net.form() {
+            Form::First => record.insert(0, 0),
+            Form::Second => {
+                record.remove(0);
+            }
+        },
+        Damage::OtherRatios => record = with_other_ratios(random, net),
+        Damage::LargeAndCut => record = large_and_cut(random, net),
         Damage::Unsound => record = encode(&with_fault(random, net, 1)),
         Damage::TwiceUnsound => record = encode(&with_fault(random, net, 2)),
         Damage::UnsoundAndDamaged => {

@@ -6,10 +6,13 @@ use generate::{any_damaged, any_net, drawn, encode, net_of, Random, Shape};
 use reference::between::walked;
 use reference::drawn::{sixteenths, sixteenths_by_doubling};
 use reference::program::planned;
+use reference::slips::{slipped_trees, Slip};
 use reference::trees::{
     least_lengths, least_lengths_by_triples, lightest, lightest_by_chains, path, whole_length,
 };
-use reference::{bounds_hold, broken_bound, margin, read, three_trees, write, Net, Tree};
+use reference::{
+    bounds_hold, broken_bound, margin, read, three_trees, write, Form, Net, Ratio, Tree,
+};
 
 const SEED: u64 = 3_001;
 
@@ -79,10 +82,14 @@ fn margins_are_signed_as_the_limit_says() {
         let of = |tree| margin(&net, post, tree).expect("sound and joined");
         let least = least_lengths(&net)[post as usize];
         assert!(of(Tree::Between) >= 0);
-        let shortest = i64::try_from(u64::from(net.p) * least).expect("small");
+        let Some(Ratio { p, q }) = net.ratios()[post as usize] else {
+            assert_eq!(Tree::ALL.map(of), [0; 3]);
+            continue;
+        };
+        let shortest = i64::try_from(u64::from(p) * least).expect("small");
         assert_eq!(of(Tree::Shortest), shortest);
         let far = path(&net, &lightest(&net), post).expect("reached");
-        let breaks = u64::from(net.q) * far > u64::from(net.p + net.q) * least;
+        let breaks = u64::from(q) * far > u64::from(p + q) * least;
         assert_eq!(of(Tree::Lightest) < 0, breaks);
         below_zero += u32::from(breaks);
     }
@@ -95,21 +102,50 @@ fn notes_are_never_below_paths_and_keep_the_limit() {
         let trees = three_trees(&net).expect("sound and joined");
         let least = least_lengths(&net);
         let after = walked(&net, &trees.lightest, &least, &trees.shortest);
-        for post in 0..net.posts {
+        for ((post, least), ratio) in (0..).zip(least).zip(net.ratios()) {
             let note = after.notes[post as usize].length().expect("noted");
             let path = path(&net, &after.tree, post).expect("reached");
-            assert!(least[post as usize] <= path && path <= note);
-            assert!(u64::from(net.q) * note <= u64::from(net.p + net.q) * least[post as usize]);
+            assert!(least <= path && path <= note);
+            let Ratio { p, q } = ratio.unwrap_or(Ratio::new(0, 1));
+            assert!(u64::from(q) * note <= u64::from(p + q) * least);
+            if p == 0 {
+                assert_eq!(path, least);
+            }
         }
         // Without a laid path the walk only goes down the lightest tree.
         if after.laid == 0 {
             assert_eq!(after.tree, trees.lightest);
         }
-        if net.p == 0 {
-            let paths = (0..net.posts).map(|post| path(&net, &after.tree, post));
-            assert!(paths.eq(least.iter().copied().map(Some)));
-        }
     }
+}
+
+#[test]
+fn the_walk_by_two_methods() {
+    for net in joined_nets(1_500) {
+        let trees = three_trees(&net).expect("sound and joined");
+        // This slip is in what is reported, and not in the walk.
+        let (again, _) = slipped_trees(&net, &trees, Slip::NotesAsPaths);
+        assert_eq!(again, trees, "{net:?}");
+    }
+}
+
+#[test]
+fn the_house_ratio_for_each_post_builds_as_the_first_form_does() {
+    let mut laid = 0;
+    for net in joined_nets(1_000) {
+        let first = Net { own: None, ..net };
+        let all_alike = vec![(first.p, first.q); first.posts as usize - 1];
+        let second = first.clone().with_own(&all_alike);
+        let trees = three_trees(&first).expect("sound and joined");
+        assert_eq!(three_trees(&second).as_ref(), Ok(&trees));
+        for tree in Tree::ALL {
+            let last = first.posts - 1;
+            assert_eq!(margin(&first, last, tree), margin(&second, last, tree));
+        }
+        assert_ne!(write(&first), write(&second));
+        laid += u32::from(trees.laid > 0);
+    }
+    assert!(laid > 100, "{laid}");
 }
 
 #[test]
@@ -122,8 +158,20 @@ fn what_the_trees_do_not_depend_on() {
         for segment in &mut other.segments {
             (segment.a, segment.b) = (segment.b, segment.a);
         }
-        if net.p.max(net.q) <= 3_333 {
+        let small = |ratio: Ratio| ratio.p.max(ratio.q) <= 3_333;
+        if net.form() == Form::Second {
+            // The house ratio rules nothing.
+            (other.p, other.q) = (net.q, net.p.max(1));
+        } else if small(net.house()) {
             (other.p, other.q) = (net.p * 3, net.q * 3);
+        }
+        for ratio in other
+            .own
+            .iter_mut()
+            .flatten()
+            .filter(|ratio| small(**ratio))
+        {
+            *ratio = Ratio::new(ratio.p * 3, ratio.q * 3);
         }
         assert_eq!(three_trees(&other).as_ref(), Ok(&trees));
         if net.segments.iter().all(|segment| segment.length < 100_000) {
@@ -229,11 +277,18 @@ fn all_spanning_trees_of_tiny_nets() {
             built.shortest.radius,
             *least.iter().max().expect("a source")
         );
-        let (p, q) = (u64::from(net.p), u64::from(net.q));
-        assert!(p * whole_length(&net, &trees.between) <= (p + 2 * q) * lightest_length);
-        for post in 0..net.posts {
+        let numbers = |ratio: Ratio| (u64::from(ratio.p), u64::from(ratio.q));
+        for ((post, least), ratio) in (0..).zip(least).zip(net.ratios()) {
+            let Some((p, q)) = ratio.map(numbers) else {
+                continue;
+            };
             let path = path(&net, &trees.between, post).expect("reached");
-            assert!(q * path <= (p + q) * least[post as usize]);
+            assert!(q * path <= (p + q) * least);
+            // The smallest ratio is below no other.
+            let (least_p, least_q) = net.smallest_ratio().map(numbers).expect("two posts");
+            assert!(least_p * q <= p * least_q);
+            let whole = whole_length(&net, &trees.between);
+            assert!(least_p * whole <= (least_p + 2 * least_q) * lightest_length);
         }
         assert!(bounds_hold(&net, &trees));
         nets += 1;

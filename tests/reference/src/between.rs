@@ -1,6 +1,6 @@
 //! The walk that makes the between tree, by recursion straight from the text.
 
-use crate::net::Net;
+use crate::net::{Net, Ratio};
 use crate::trees::{parent, SOURCE_ENTRY};
 
 /// A post's note d. "None yet" is larger than any length, and the order of the
@@ -50,6 +50,8 @@ pub struct Walked {
 
 struct Walk<'n> {
     net: &'n Net,
+    /// For each post the ratio that rules it; the source has none.
+    ratios: Vec<Option<Ratio>>,
     least: &'n [u64],
     shortest: &'n [u16],
     /// For each post its children in the lightest tree and their segments, in
@@ -86,10 +88,15 @@ impl Walk<'_> {
         }
     }
 
+    /// Whether the note of `v` is above the limit by the ratio that rules `v`.
+    fn breaks_limit(&self, v: u32) -> bool {
+        let ratio = self.ratios[v as usize];
+        ratio.is_some_and(|Ratio { p, q }| self.note(v).times(q) > self.least(v).times(p + q))
+    }
+
     /// Enters `v` and walks what hangs below it.
     fn walk(&mut self, v: u32) {
-        let (p, q) = (self.net.p, self.net.q);
-        if self.note(v).times(q) > self.least(v).times(p + q) {
+        if self.breaks_limit(v) {
             self.lay(v);
             self.after.laid += 1;
         }
@@ -124,6 +131,7 @@ pub fn walked(net: &Net, lightest: &[u16], least: &[u64], shortest: &[u16]) -> W
     notes[net.source as usize] = Note::Length(0);
     let mut walk = Walk {
         net,
+        ratios: net.ratios(),
         least,
         shortest,
         children: children(net, lightest),

@@ -2,11 +2,13 @@
 //! the reference's own sums.
 //!
 //! * Every post is reached in each tree.
-//! * In the between tree q × path ≤ (p + q) × D for every post.
-//! * p × length of the between tree ≤ (p + 2q) × length of the lightest tree.
+//! * In the between tree q × path ≤ (p + q) × D for every post but the source,
+//!   p/q being the ratio that rules it; the source's path is 0.
+//! * p × length of the between tree ≤ (p + 2q) × length of the lightest tree for
+//!   the smallest ratio p/q of any post but the source; for one post it is 0.
 
 use crate::building::{Tree, Trees};
-use crate::net::Net;
+use crate::net::{Net, Ratio};
 use crate::trees::{least_lengths, lightest, path, whole_length};
 
 /// The first bound that these trees break, in words, or `None`.
@@ -24,19 +26,34 @@ pub fn broken_bound(net: &Net, trees: &Trees) -> Option<String> {
             }
         }
     }
-    let (p, q) = (u64::from(net.p), u64::from(net.q));
-    for (post, least) in (0..).zip(least_lengths(net)) {
+    for ((post, least), ratio) in (0..).zip(least_lengths(net)).zip(net.ratios()) {
         let path = path(net, &trees.between, post).expect("reached, as seen above");
-        if q * path > (p + q) * least {
+        let within = ratio.map_or(path == 0, |ratio| {
+            let (p, q) = (u64::from(ratio.p), u64::from(ratio.q));
+            q * path <= (p + q) * least
+        });
+        if !within {
             return Some(format!("the path of post {post} is {path}, D is {least}"));
         }
     }
-    let between = whole_length(net, &trees.between);
-    let lightest = whole_length(net, &lightest(net));
-    if p * between > (p + 2 * q) * lightest {
-        return Some(format!("length {between}, lightest length {lightest}"));
+    let smallest = net.smallest_ratio();
+    if !length_within(net, &trees.between, smallest) {
+        let between = whole_length(net, &trees.between);
+        let ratio = smallest.map_or("none".to_owned(), |ratio| format!("{ratio:?}"));
+        return Some(format!("length {between}, smallest ratio {ratio}"));
     }
     None
+}
+
+/// Whether the length of a tree keeps the bound of this ratio; without a ratio
+/// it must be 0.
+pub fn length_within(net: &Net, tree: &[u16], ratio: Option<Ratio>) -> bool {
+    let whole = whole_length(net, tree);
+    let lightest = whole_length(net, &lightest(net));
+    ratio.map_or(whole == 0, |ratio| {
+        let (p, q) = (u64::from(ratio.p), u64::from(ratio.q));
+        p * whole <= (p + 2 * q) * lightest
+    })
 }
 
 /// Whether all the bounds hold of these trees.

@@ -80,7 +80,8 @@ impl Trees {
     }
 
     /// The margin of a post in one of these trees, which are the net's:
-    /// (p + q) × D minus q × path. Refusal 19.
+    /// (p + q) × D minus q × path, p/q being the ratio that rules the post; 0
+    /// for the source. Refusal 19.
     pub fn margin(&self, net: &Net, post: u32, which: Tree) -> Result<i64, Refusal> {
         if post >= net.posts {
             return Err(Refusal::new(19, 0));
@@ -88,8 +89,10 @@ impl Trees {
         let signed = |length: u64| i64::try_from(length).expect("lengths are small");
         let least = signed(least_lengths(net)[post as usize]);
         let path = path(net, self.tree(which), post).expect("a tree comes to the source");
-        let (p, q) = (i64::from(net.p), i64::from(net.q));
-        Ok((p + q) * least - q * signed(path))
+        Ok(net.ratios()[post as usize].map_or(0, |ratio| {
+            let (p, q) = (i64::from(ratio.p), i64::from(ratio.q));
+            (p + q) * least - q * signed(path)
+        }))
     }
 }
 
@@ -107,7 +110,7 @@ fn trees_of_joined(net: &Net) -> Trees {
     }
 }
 
-/// The three trees in lists of their own: refusals 1 to 7, then 9.
+/// The three trees in lists of their own: refusals 1 to 8, then 9.
 pub fn three_trees(net: &Net) -> Result<Trees, Refusal> {
     net.check_sound()?;
     net.check_joined()?;
@@ -140,7 +143,7 @@ pub fn build(
 }
 
 /// The margin of a post in one of the three trees, worked out afresh:
-/// (p + q) × D minus q × path. Refusals 1 to 7, then 9, then 19.
+/// (p + q) × D minus q × path. Refusals 1 to 8, then 9, then 19.
 pub fn margin(net: &Net, post: u32, which: Tree) -> Result<i64, Refusal> {
     three_trees(net)?.margin(net, post, which)
 }

@@ -7,10 +7,10 @@ use crate::net::{Net, Refusal};
 use crate::record::read;
 
 /// The most bytes of its input that the program reads.
-pub const MOST_BYTES: usize = 14_351;
+pub const MOST_BYTES: usize = 15_372;
 
 /// The program's output for this input, of which it looks at no more than the
-/// first 14,351 bytes.
+/// first 15,372 bytes.
 pub fn program_output(input: &[u8]) -> String {
     let looked_at = &input[..input.len().min(MOST_BYTES)];
     match planned(looked_at) {
@@ -31,7 +31,8 @@ pub fn refusal_text(refusal: Refusal) -> String {
     format!("{refusal}\n")
 }
 
-/// The five lines for a net that was built.
+/// The five lines for a net that was built; the first has the house ratio,
+/// whatever the form.
 pub fn plan_text(net: &Net, trees: &Trees, built: &Built) -> String {
     let mut text = format!(
         "net {} {} {} {}/{}\n",

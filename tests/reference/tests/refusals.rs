@@ -104,6 +104,7 @@ fn in_bindings(refusal: &str) -> Option<Vec<Row>> {
 fn counted(place: &str) -> &'static str {
     match place {
         "0" => "Nothing",
+        "0, or the post whose own ratio it is" => "Ratio",
         "the segment" => "Segment",
         "the lowest such post" => "Post",
         "the offset of that number" | "the offset of the first" => "Byte",
@@ -234,6 +235,10 @@ fn whatever_differs_from_the_table_shows() {
         ("| both ends of a segment are", "| both ends are"),
         ("are the same | the segment |", "are the same | 0 |"),
         ("both together 2 |", "both together 3 |"),
+        (
+            "| 0, or the post whose own ratio it is |",
+            "| 0, or the segment |",
+        ),
         (lists, &format!("{lists}\n{lists}")),
         ("| 19 | no such", "| 20 | no such"),
     ] {
@@ -252,6 +257,7 @@ fn whatever_differs_from_the_table_shows() {
         ("    6 SameEnds", "    7 SameEnds"),
         ("    6 SameEnds", "    6 EqualEnds"),
         ("9 NotJoined Post", "9 NotJoined Segment"),
+        ("3 Ratio Ratio", "3 Ratio Nothing"),
         ("is 0 or above 256", "is 0 or above 255"),
         ("    18 ShortRoom", "//  18 ShortRoom"),
     ] {
@@ -293,9 +299,9 @@ fn given_by_the_reference() -> Vec<(Option<Refusal>, u32)> {
     let [lightest, shortest, between] = &mut lists;
     let short_list = build(&net_a((1, 1)), lightest, &mut shortest[..3], between);
     vec![
-        (record(&[0, 0, 1, 1, 0]), 0),
+        (record(&[0, 0, 0, 1, 1, 0]), 0),
         (record(&[4, 4, 1, 1, 0]), 0),
-        (record(&[4, 0, 1, 0, 0]), 0),
+        (record(&[0, 3, 0, 1, 1, 0, 1, 1, 1, 0]), 2),
         (record(&[4, 0, 1, 1, 129, 16]), 0),
         (record(&[4, 0, 1, 1, 2, 0, 3, 1, 0, 4, 1]), 1),
         (record(&[4, 0, 1, 1, 2, 0, 3, 1, 2, 2, 1]), 1),
@@ -333,6 +339,17 @@ fn the_reference_gives_each_number_at_a_place_of_the_table() {
         assert_eq!(refusal, Some(Refusal { number, place }), "{row:?}");
         assert_eq!(counted(&row.place) == "Nothing", place == 0, "{row:?}");
     }
-    let no_room = read_into(&[2, 0, 1, 2, 1, 0, 1, 172, 2], &mut [] as &mut [Segment]);
-    assert_eq!(no_room.err(), Some(Refusal::new(8, 0)));
+    // 3 of the house ratio, and 8 of each list that reading is lent.
+    let house = read(&[4, 0, 1, 0, 0]);
+    assert_eq!(house.err(), Some(Refusal::new(3, 0)));
+    for [p, q, segments] in [[1, 2, 1], [2, 1, 1], [2, 2, 0]] {
+        let mut segments = vec![Segment::new(7, 7, 7); segments];
+        let no_room = read_into(
+            &[2, 0, 1, 2, 1, 0, 1, 172, 2],
+            &mut vec![7; p],
+            &mut vec![7; q],
+            &mut segments,
+        );
+        assert_eq!(no_room.err(), Some(Refusal::new(8, 0)));
+    }
 }

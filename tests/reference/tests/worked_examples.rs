@@ -1,7 +1,8 @@
 //! Every example that document 01 works, and its decided readings.
 
 use reference::net::{MOST_LENGTH, MOST_SEGMENTS};
-use reference::record::{number_bytes, read_number, LONGEST_RECORD};
+use reference::program::MOST_BYTES;
+use reference::record::{number_bytes, read_number, LONGEST_FIRST_FORM, LONGEST_RECORD};
 use reference::slips::{drawn_by_refusal, slipped_output, slipped_trees, Slip};
 use reference::trees::{least_lengths, lightest, path, shortest, whole_length, SOURCE_ENTRY};
 use reference::worked::{
@@ -9,7 +10,7 @@ use reference::worked::{
 };
 use reference::{
     bounds_hold, build, drawn_length, margin, program_output, read, read_into, three_trees, write,
-    write_into, Measure, Net, Refusal, Run, Segment, Tree, Trees,
+    write_into, Form, Measure, Net, Refusal, Run, Segment, Tree, Trees,
 };
 
 const S: u16 = SOURCE_ENTRY;
@@ -393,17 +394,18 @@ fn ends_stay_in_the_order_given() {
 }
 
 #[test]
-fn the_longest_good_record() {
+fn the_longest_good_record_of_the_first_form() {
     let segment = Segment::new(128, 255, MOST_LENGTH);
     let net = Net {
         posts: 256,
         source: 255,
         p: 10_000,
         q: 10_000,
+        own: None,
         segments: vec![segment; MOST_SEGMENTS],
     };
     let record = write(&net).expect("sound");
-    assert_eq!(record.len(), LONGEST_RECORD);
+    assert_eq!(record.len(), LONGEST_FIRST_FORM);
     assert_eq!(read(&record), Ok(net));
 }
 
@@ -419,7 +421,8 @@ fn order_of_refusals_in_reading() {
         (&[0, 9, 128, 0, 0, 0], 11, 2),
         (&[128, 0], 11, 0),
         (&[128, 128, 128, 128], 11, 0),
-        (&[0, 0, 0, 0, 0], 1, 0),
+        // A first number 0 says that five more make the head.
+        (&[0, 0, 0, 0, 0, 0], 1, 0),
         (&[129, 2, 0, 0, 0, 0], 1, 0),
         (&[4, 4, 0, 0, 129, 16], 2, 0),
         (&[4, 3, 0, 0, 129, 16], 3, 0),
@@ -451,24 +454,32 @@ fn order_of_refusals_in_reading() {
 #[test]
 fn reading_into_a_lent_list() {
     let blank = Segment::new(77, 77, 77);
+    // A record of the first form leaves the ratios as they were.
+    let into = |record: &[u8], lent: &mut [Segment]| {
+        let mut ratios = [[88; 4]; 2];
+        let [p, q] = &mut ratios;
+        let answer = read_into(record, p, q, lent);
+        assert_eq!(ratios, [[88; 4]; 2], "{record:?}");
+        answer
+    };
     let mut lent = [blank; 7];
-    let head = read_into(&RECORD_A, &mut lent).expect("good");
+    let head = into(&RECORD_A, &mut lent).expect("good");
     assert_eq!((head.posts, head.source, head.p, head.q), (4, 0, 1, 1));
-    assert_eq!(head.segments, 5);
+    assert_eq!((head.form, head.segments), (Form::First, 5));
     assert_eq!(lent[..5], net_a((1, 1)).segments);
     assert_eq!(lent[5..], [blank; 2]);
     // A short list: 8 after 1 to 4, before the first segment is read.
     let mut lent = [blank; 4];
-    assert_eq!(read_into(&RECORD_A, &mut lent), refusal(8, 0));
-    assert_eq!(read_into(&RECORD_A[..5], &mut lent), refusal(8, 0));
-    assert_eq!(read_into(&RECORD_A[..4], &mut lent), refusal(10, 4));
-    assert_eq!(read_into(&[4, 4, 1, 1, 5], &mut lent), refusal(2, 0));
+    assert_eq!(into(&RECORD_A, &mut lent), refusal(8, 0));
+    assert_eq!(into(&RECORD_A[..5], &mut lent), refusal(8, 0));
+    assert_eq!(into(&RECORD_A[..4], &mut lent), refusal(10, 4));
+    assert_eq!(into(&[4, 4, 1, 1, 5], &mut lent), refusal(2, 0));
     // Nothing is stored before the whole record is found good.
     let mut lent = [blank; 5];
-    assert_eq!(read_into(&RECORD_A[..19], &mut lent), refusal(10, 19));
+    assert_eq!(into(&RECORD_A[..19], &mut lent), refusal(10, 19));
     let mut longer = RECORD_A.to_vec();
     longer.push(0);
-    assert_eq!(read_into(&longer, &mut lent), refusal(12, 20));
+    assert_eq!(into(&longer, &mut lent), refusal(12, 20));
     assert_eq!(lent, [blank; 5]);
 }
 
@@ -591,37 +602,44 @@ fn program_on_empty_input() {
 
 #[test]
 fn program_answers_for_the_whole_input() {
-    // The longest head and 2,047 of the longest segments, then a last segment
-    // of three four-byte numbers, then more: the first 14,351 bytes are enough.
-    let numbers = [256, 255, 10_000, 10_000, 2_048];
-    let mut start: Vec<u8> = numbers.into_iter().flat_map(number_bytes).collect();
-    for _ in 0..2_047 {
-        start.extend([128, 255].map(number_bytes).concat());
-        start.extend(number_bytes(MOST_LENGTH));
+    // The longest start up to the last segment, then a segment of three
+    // four-byte numbers, then more: the first 15,372 bytes are enough.
+    let head = [256, 255, 10_000, 10_000, 2_048];
+    let second_form = [&[0], &head[..], &[10_000; 510]].concat();
+    for (numbers, longest) in [
+        (&head[..], LONGEST_FIRST_FORM),
+        (&second_form[..], LONGEST_RECORD),
+    ] {
+        let mut start: Vec<u8> = numbers.iter().copied().flat_map(number_bytes).collect();
+        for _ in 0..2_047 {
+            start.extend([128, 255].map(number_bytes).concat());
+            start.extend(number_bytes(MOST_LENGTH));
+        }
+        let mut long = start.clone();
+        for _ in 0..3 {
+            long.extend([255, 255, 255, 127]);
+        }
+        assert_eq!(long.len(), longest + 5);
+        for extra in 0..20 {
+            let mut input = long.clone();
+            input.extend(vec![128; extra]);
+            assert_eq!(read(&input), refusal(5, 2_047));
+            assert_eq!(program_output(&input), "refused 5 2047\n");
+        }
+        let mut more = start.clone();
+        more.extend([255, 255, 255, 127, 255, 255, 255, 127, 128, 128, 128, 128]);
+        let refused = format!("refused 11 {}\n", longest + 1);
+        assert_eq!(program_output(&more), refused);
+        more.extend([1; 9]);
+        assert_eq!(program_output(&more), refused);
+        let mut after = start;
+        after.extend([128, 1, 129, 1, 255, 255, 63]);
+        assert_eq!(after.len(), longest);
+        assert_eq!(program_output(&after), "refused 9 0\n");
+        after.extend([0; 100]);
+        assert_eq!(program_output(&after), format!("refused 12 {longest}\n"));
     }
-    let four_bytes = [255, 255, 255, 127];
-    let mut long = start.clone();
-    for _ in 0..3 {
-        long.extend(four_bytes);
-    }
-    assert_eq!(long.len(), 14_351);
-    for extra in 0..20 {
-        let mut input = long.clone();
-        input.extend(vec![128; extra]);
-        assert_eq!(read(&input), refusal(5, 2_047));
-        assert_eq!(program_output(&input), "refused 5 2047\n");
-    }
-    let mut more = start.clone();
-    more.extend([255, 255, 255, 127, 255, 255, 255, 127, 128, 128, 128, 128]);
-    assert_eq!(program_output(&more), "refused 11 14347\n");
-    more.extend([1; 9]);
-    assert_eq!(program_output(&more), "refused 11 14347\n");
-    let mut after = start;
-    after.extend([128, 1, 129, 1, 255, 255, 63]);
-    assert_eq!(after.len(), LONGEST_RECORD);
-    assert_eq!(program_output(&after), "refused 9 0\n");
-    after.extend([0; 100]);
-    assert_eq!(program_output(&after), "refused 12 14346\n");
+    assert_eq!(MOST_BYTES, LONGEST_RECORD + 5);
 }
 
 // Slips.

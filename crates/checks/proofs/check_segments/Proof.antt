@@ -1,14 +1,15 @@
 use borrow.Author.Needs.{needs}
 use Prim.Native.Nat.{_-_}
+use lib.ListN.{length as size}
 use Rattle.net.specs.Net.{segmentsOf}
 use Rattle.net.proofs.Segments.{in-each}
-use Rattle.checks.proofs.Ways.{SoundBelow, sound-none, sound-more, sound-all, refused-at}
+use Rattle.checks.proofs.Ways.{SoundBelow, sound-none, sound-more, sound-all, refused-at, segmentTable, segments-in-turn}
 use native.Mathlib.Omega.{arith}
 use Rattle.checks.proofs.check_segments.Statement.{statement}
 use Rattle.checks.proofs.check_segments.Tie as tie
 
 abbrev Inv-loop : tie.InvT-loop
-Inv-loop posts a b length count i₀ i = SoundBelow posts (segmentsOf a b length) i
+Inv-loop posts a b length count i₀ i = SoundBelow (segmentTable posts (segmentsOf a b length)) (size (segmentsOf a b length)) i
 
 abbrev μ-loop : tie.MeasureT-loop
 μ-loop posts a b length count i₀ i = count - i
@@ -29,7 +30,8 @@ enum-known-says : tie.Need-enum-known-says Inv-loop μ-loop
 enum-known-says c = search needs
 
 returns : tie.Need-returns Inv-loop μ-loop
-returns c = refused-at (c .before .before .before .before .before .before .loop .inv) (omega arith) (c .before .before .before .before .segment-at .ensures) (c .before .before .before .check-segment .ensures) (c .before .says .given .1)
+returns c = segments-in-turn _ _
+    (refused-at (c .before .before .before .before .before .before .loop .inv) (omega arith) (rw (c .before .before .before .before .segment-at .ensures) at (c .before .before .before .check-segment .ensures)) (c .before .says .given .1))
 
 enum-told : tie.Need-enum-told Inv-loop μ-loop
 enum-told c = search needs
@@ -41,10 +43,10 @@ loop-less : tie.Need-loop-less Inv-loop μ-loop
 loop-less c = omega arith
 
 loop-again : tie.Need-loop-again Inv-loop μ-loop
-loop-again c = sound-more (c .before .before .before .before .before .loop .inv) (omega arith) (c .before .before .before .segment-at .ensures) (c .before .before .check-segment .ensures) (c .enum-told .given .1)
+loop-again c = sound-more (c .before .before .before .before .before .loop .inv) (omega arith) (rw (c .before .before .before .segment-at .ensures) at (c .before .before .check-segment .ensures)) (c .enum-told .given .1)
 
 returns-2 : tie.Need-returns-2 Inv-loop μ-loop
-returns-2 c = sound-all (c .before .loop .inv) (omega arith)
+returns-2 c = segments-in-turn _ _ (sound-all (c .before .loop .inv) (omega arith))
 
 pub check-segments-spec : {M : Type 1} → statement M
 check-segments-spec =

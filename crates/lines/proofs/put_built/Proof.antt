@@ -14,7 +14,7 @@ use Rattle.lines.proofs.put_built.Tie as tie
 fits : (p : tie.After-shared-slice-known3) → fiveLines (p .before .before .before .args .head) (p .before .before .before .args .segments) (p .before .before .before .args .light) (p .before .before .before .args .short) (p .before .before .before .args .third)
     (p .before .before .before .args .laid) (p .before .before .before .args .lightest .now) (p .before .before .before .args .shortest .now) (p .before .before .before .args .between .now) ≤ mostText
 fits p =
-    five-short _ _ _ _ _ _ _ _ _ (omega arith) (λ v. omega (arith, p .before .before .shared-slice-known .given v))
+    five-short (p .before .before .before .args .head) _ _ _ _ _ _ _ _ (omega arith) (λ v. omega (arith, p .before .before .shared-slice-known .given v))
     (λ v. omega (arith, p .before .shared-slice-known2 .given v)) (λ v. omega (arith, p .shared-slice-known3 .given v))
 
 put-net-line-requires : tie.Need-put-net-line-requires

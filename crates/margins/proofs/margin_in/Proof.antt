@@ -7,7 +7,7 @@ use Rattle.margins.proofs.margin_in.Statement.{statement}
 use Rattle.margins.proofs.margin_in.Tie as tie
 
 all-trees-requires : tie.Need-all-trees-requires
-all-trees-requires c κs = c .before .before .before .before .before .before .before .before .before .before .before .pre
+all-trees-requires c κs = c .before .before .before .before .before .before .before .before .before .before .before .before .before .pre
 
 enum-known-says : tie.Need-enum-known-says
 enum-known-says c = search needs
@@ -29,9 +29,9 @@ same-length-4 c = omega arith
 
 returns : tie.Need-returns
 returns c =
-    let s = c .before .before .before .before .before .before .before .before .before .before .before .before .before .before .before .before .before .before .before .before .before .before .before .before in
+    let s = c .before .before .before .before .before .before .before .before .before .before .before .before .before .before .before .before .before .before .before .before .before .before .before .before .before .before in
     let x = s .args in
-    says-apart (x .head) (x .a .now) (x .b .now) (x .lengths .now) (x .tree) (x .post) (s .pre .0)
+    says-apart (x .head) (x .p .now) (x .q .now) (x .a .now) (x .b .now) (x .lengths .now) (x .tree) (x .post) (s .pre .0 .0) (s .pre .0 .1)
     (c .before .before .before .before .before .before .before .before .before .before .before .before .all-trees .ensures .apart (c .before .before .says .given .1) .nine) (c .refuse-margin .ensures)
 
 enum-told : tie.Need-enum-told
@@ -54,9 +54,9 @@ same-length-8 c = omega arith
 
 returns-2 : tie.Need-returns-2
 returns-2 c =
-    let s = c .before .before .before .before .before .before .before .before .before .before .before .before .before .before .before .before .before .before .before .before .before .before .before .before .before in
+    let s = c .before .before .before .before .before .before .before .before .before .before .before .before .before .before .before .before .before .before .before .before .before .before .before .before .before .before .before in
     let x = s .args in
-    says-beyond (x .head) (x .a .now) (x .b .now) (x .lengths .now) (x .tree) (x .post) (s .pre .0)
+    says-beyond (x .head) (x .p .now) (x .q .now) (x .a .now) (x .b .now) (x .lengths .now) (x .tree) (x .post) (s .pre .0 .0) (s .pre .0 .1)
     (c .before .before .before .before .before .before .before .before .before .before .before .before .before .all-trees .ensures .joined (c .before .before .before .enum-told .given .1) .none-apart) (c .before .if1 .taken) (c .refuse-margin2 .ensures)
 
 index-of-requires : tie.Need-index-of-requires
@@ -64,10 +64,10 @@ index-of-requires c κs = search needs
 
 margin-joined-requires : tie.Need-margin-joined-requires
 margin-joined-requires c κs =
-    let p = c .before .before .before .before .before .before .before .before .before .before .before .before .before .before .before .before .before .before .before .before .before .before .before .before .before .before .before .before .before .pre in
+    let p = c .before .before .before .before .before .before .before .before .before .before .before .before .before .before .before .before .before .before .before .before .before .before .before .before .before .before .before .before .before .before .before .pre in
     let q = p .1 in
     let t = c .before .before .before .before .before .before .before .before .before .before .before .before .before .before .before .before .before .all-trees in
-    let k = t .kept .1 .1 .1 .1 in
+    let k = t .kept .1 .1 .1 .1 .1 .1 in
     let post-in = c .before .before .before .before .before .if1 .left in
     let v-is = c .before .before .before .before .index-of .ensures in (
       p .0,
@@ -91,11 +91,11 @@ same-length-12 c = omega arith
 
 returns-3 : tie.Need-returns-3
 returns-3 c =
-    let s = c .before .before .before .before .before .before .before .before .before .before .before .before .before .before .before .before .before .before .before .before .before .before .before .before .before .before .before .before .before .before in
+    let s = c .before .before .before .before .before .before .before .before .before .before .before .before .before .before .before .before .before .before .before .before .before .before .before .before .before .before .before .before .before .before .before .before in
     let x = s .args in
     let t = c .before .before .before .before .before .before .before .before .before .before .before .before .before .before .before .before .before .before .all-trees .ensures in
     let j = c .margin-joined in
-    says-margin (x .head) (x .a .now) (x .b .now) (x .lengths .now) (x .tree) (x .post) (s .pre .0)
+    says-margin (x .head) (x .p .now) (x .q .now) (x .a .now) (x .b .now) (x .lengths .now) (x .tree) (x .post) (s .pre .0 .0) (s .pre .0 .1)
     (t .joined (c .before .before .before .before .before .before .before .before .enum-told .given .1) .none-apart) (omega (arith, c .before .before .before .before .before .before .if1 .left)) (c .before .before .before .before .before .index-of .ensures)
     (j .result) (j .ok) (j .ensures)
 

@@ -1,4 +1,4 @@
--- `margin_front` meets its contract: the margin in the net in the fronts of the three lists. Assumes nothing.
+-- `margin_front` meets its contract: the margin in the net in the five lists. Assumes nothing.
 use Rattle.on_records.proofs.Given.{margin-front}
 use lib.ListN.{length-take}
 use native.Mathlib.Omega.{arith}
@@ -19,7 +19,7 @@ margin-sound-requires : tie.Need-margin-sound-requires
 margin-sound-requires c κs = search needs
 
 returns : tie.Need-returns
-returns c = margin-front _ _ (c .before .before .before .before .before .before .before .pre) (c .margin-sound .ensures)
+returns c = margin-front _ _ (c .before .before .before .before .before .before .before .before .before .pre) (c .margin-sound .ensures)
 
 pub margin-front-spec : {M : Type 1} → statement M
 margin-front-spec =

@@ -1,20 +1,26 @@
--- `plan` meets its contract: reads the record and, where it is good, plans the net in the fronts of the three lists. Assumes nothing.
+-- `plan` meets its contract: reads the record and, where it is good, plans the net in the five lists. Assumes nothing.
 use Rattle.on_records.proofs.Given.{read-refused, read-given, plans-refused, plans-read}
 use borrow.Author.Needs.{needs}
 use Rattle.on_records.proofs.plan.Statement.{statement}
 use Rattle.on_records.proofs.plan.Tie as tie
 
-slice-aggregate-read-in : tie.Need-slice-aggregate-read-in
-slice-aggregate-read-in c = search needs
+slice-aggregate-read-record : tie.Need-slice-aggregate-read-record
+slice-aggregate-read-record c = search needs
 
-slice-aggregate-read-in-2 : tie.Need-slice-aggregate-read-in-2
-slice-aggregate-read-in-2 c = search needs
+slice-aggregate-read-record-2 : tie.Need-slice-aggregate-read-record-2
+slice-aggregate-read-record-2 c = search needs
 
-slice-aggregate-read-in-3 : tie.Need-slice-aggregate-read-in-3
-slice-aggregate-read-in-3 c = search needs
+slice-aggregate-read-record-3 : tie.Need-slice-aggregate-read-record-3
+slice-aggregate-read-record-3 c = search needs
 
-read-in-requires : tie.Need-read-in-requires
-read-in-requires c κs = search needs
+slice-aggregate-read-record-4 : tie.Need-slice-aggregate-read-record-4
+slice-aggregate-read-record-4 c = search needs
+
+slice-aggregate-read-record-5 : tie.Need-slice-aggregate-read-record-5
+slice-aggregate-read-record-5 c = search needs
+
+read-record-requires : tie.Need-read-record-requires
+read-record-requires c κs = search needs
 
 enum-known-answer : tie.Need-enum-known-answer
 enum-known-answer c = search needs
@@ -31,13 +37,21 @@ slice-aggregate-plan-front-2 c = search needs
 slice-aggregate-plan-front-3 : tie.Need-slice-aggregate-plan-front-3
 slice-aggregate-plan-front-3 c = search needs
 
+slice-aggregate-plan-front-4 : tie.Need-slice-aggregate-plan-front-4
+slice-aggregate-plan-front-4 c = search needs
+
+slice-aggregate-plan-front-5 : tie.Need-slice-aggregate-plan-front-5
+slice-aggregate-plan-front-5 c = search needs
+
 plan-front-requires : tie.Need-plan-front-requires
-plan-front-requires c κs = (read-given _ (c .before .before .before .before .before .before .before .before .before .before .before .before .read-in .ensures) (c .before .before .before .before .before .before .before .before .before .before .before .before .read-in .kept .1 .1 .0)
-    (c .before .before .before .before .before .before .before .before .before .before .before .before .read-in .kept .1 .1 .1 .0) (c .before .before .before .before .before .before .before .before .before .before .before .before .read-in .kept .1 .1 .1 .1 .0)
-    (c .before .before .before .before .before .before .before .answer2 .given .1)) .front
+plan-front-requires c κs =
+    let r = c .before .before .before .before .before .before .before .before .before .before .before .before .before .before .before .before .read-record in
+    let k = r .kept .1 in
+    let g = read-given _ (r .ensures) (k .0) (k .1 .0) (k .1 .1 .0) (k .1 .1 .1 .0) (k .1 .1 .1 .1 .0) (c .before .before .before .before .before .before .before .before .before .answer2 .given .1) in
+    g .front
 
 returns : tie.Need-returns
-returns c = plans-refused _ _ _ _ _ (read-refused _ (c .before .before .before .before .before .before .read-in .ensures) (c .before .answer .given .1))
+returns c = plans-refused _ _ _ _ _ (read-refused _ (c .before .before .before .before .before .before .before .before .read-record .ensures) (c .before .answer .given .1))
 
 same-length : tie.Need-same-length
 same-length c = search needs
@@ -50,26 +64,28 @@ same-length-3 c = search needs
 
 returns-2 : tie.Need-returns-2
 returns-2 c =
-    let g = read-given _ (c .before .before .before .before .before .before .before .before .before .before .before .before .before .before .before .before .before .before .before .read-in .ensures)
-    (c .before .before .before .before .before .before .before .before .before .before .before .before .before .before .before .before .before .before .before .read-in .kept .1 .1 .0)
-    (c .before .before .before .before .before .before .before .before .before .before .before .before .before .before .before .before .before .before .before .read-in .kept .1 .1 .1 .0)
-    (c .before .before .before .before .before .before .before .before .before .before .before .before .before .before .before .before .before .before .before .read-in .kept .1 .1 .1 .1 .0)
-    (c .before .before .before .before .before .before .before .before .before .before .before .before .before .before .answer2 .given .1) in
+    let r = c .before .before .before .before .before .before .before .before .before .before .before .before .before .before .before .before .before .before .before .before .before .before .before .read-record in
+    let k = r .kept .1 in
+    let g = read-given _ (r .ensures) (k .0) (k .1 .0) (k .1 .1 .0) (k .1 .1 .1 .0) (k .1 .1 .1 .1 .0) (c .before .before .before .before .before .before .before .before .before .before .before .before .before .before .before .before .answer2 .given .1) in
     plans-read _ _ _ _ g (c .before .before .before .before .before .before .plan-front .ensures)
 
 pub plan-spec : {M : Type 1} → statement M
 plan-spec =
     tie.close
     (tie.spec
-    slice-aggregate-read-in
-    slice-aggregate-read-in-2
-    slice-aggregate-read-in-3
-    read-in-requires
+    slice-aggregate-read-record
+    slice-aggregate-read-record-2
+    slice-aggregate-read-record-3
+    slice-aggregate-read-record-4
+    slice-aggregate-read-record-5
+    read-record-requires
     enum-known-answer
     enum-known-answer-2
     slice-aggregate-plan-front
     slice-aggregate-plan-front-2
     slice-aggregate-plan-front-3
+    slice-aggregate-plan-front-4
+    slice-aggregate-plan-front-5
     plan-front-requires
     returns
     same-length

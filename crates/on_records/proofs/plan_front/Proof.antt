@@ -31,7 +31,9 @@ same-length-3 : tie.Need-same-length-3
 same-length-3 c = search needs
 
 returns : tie.Need-returns
-returns c = plans-front (c .before .before .before .before .before .before .before .before .before .before .before .before .before .before .before .before .before .before .before .before .pre) (c .before .before .before .before .before .before .before .build-sound .ensures) (c .planned .ensures)
+returns c =
+    let start = c .before .before .before .before .before .before .before .before .before .before .before .before .before .before .before .before .before .before .before .before .before .before in
+    plans-front (start .pre) (c .before .before .before .before .before .before .before .build-sound .ensures) (c .planned .ensures)
 
 pub plan-front-spec : {M : Type 1} → statement M
 plan-front-spec =

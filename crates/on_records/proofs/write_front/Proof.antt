@@ -1,4 +1,4 @@
--- `write_front` meets its contract: what writing leaves of the net in the fronts of the three lists. Assumes nothing.
+-- `write_front` meets its contract: what writing leaves of the net in the five lists. Assumes nothing.
 use Rattle.on_records.proofs.Given.{writes-front}
 use lib.ListN.{length-take}
 use native.Mathlib.Omega.{arith}
@@ -22,7 +22,7 @@ same-length : tie.Need-same-length
 same-length c = search needs
 
 returns : tie.Need-returns
-returns c = writes-front (c .before .before .before .before .before .before .before .before .before .before .before .pre) (c .before .before .write-sound .ensures)
+returns c = writes-front (c .before .before .before .before .before .before .before .before .before .before .before .before .before .pre) (c .before .before .write-sound .ensures)
 
 pub write-front-spec : {M : Type 1} → statement M
 write-front-spec =

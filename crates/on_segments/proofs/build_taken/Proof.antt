@@ -12,19 +12,19 @@ enum-told : tie.Need-enum-told
 enum-told c = search needs
 
 slice-aggregate-build-sound : tie.Need-slice-aggregate-build-sound
-slice-aggregate-build-sound c = simp length-take (omega (arith, front-in (c .before .before .before .before .before .before .before .before .before .pre .stands) (c .before .enum-told .given .1)))
+slice-aggregate-build-sound c = simp length-take (omega (arith, front-in (c .before .before .before .before .before .before .before .before .before .before .before .pre .stands) (c .before .enum-told .given .1)))
 
 slice-aggregate-build-sound-2 : tie.Need-slice-aggregate-build-sound-2
-slice-aggregate-build-sound-2 c = simp length-take (omega (arith, front-in (c .before .before .before .before .before .before .before .before .before .before .pre .stands) (c .before .before .enum-told .given .1)))
+slice-aggregate-build-sound-2 c = simp length-take (omega (arith, front-in (c .before .before .before .before .before .before .before .before .before .before .before .before .pre .stands) (c .before .before .enum-told .given .1)))
 
 slice-aggregate-build-sound-3 : tie.Need-slice-aggregate-build-sound-3
-slice-aggregate-build-sound-3 c = simp length-take (omega (arith, front-in (c .before .before .before .before .before .before .before .before .before .before .before .pre .stands) (c .before .before .before .enum-told .given .1)))
+slice-aggregate-build-sound-3 c = simp length-take (omega (arith, front-in (c .before .before .before .before .before .before .before .before .before .before .before .before .before .pre .stands) (c .before .before .before .enum-told .given .1)))
 
 build-sound-requires : tie.Need-build-sound-requires
-build-sound-requires c κs = front-ready (c .before .before .before .before .before .before .before .before .before .before .before .before .before .before .pre .stands) (c .before .before .before .before .before .before .enum-told .given .1)
+build-sound-requires c κs = front-ready (c .before .before .before .before .before .before .before .before .before .before .before .before .before .before .before .before .pre .stands) (c .before .before .before .before .before .before .enum-told .given .1)
 
 returns : tie.Need-returns
-returns c = λ l t. build-refused t (c .before .says .given .1) _ _ _
+returns c = λ l t. build-refused t (c .before .says .given .1) _ _ _ _
 
 same-length : tie.Need-same-length
 same-length c = search needs

@@ -17,8 +17,8 @@ use Rattle.on_segments.proofs.write as f
 use Rattle.on_segments.proofs.write.Statement as stated
 use Rattle.on_segments.proofs.write.Code as code
 
-abbrev ks : List (Kind 2)
-ks = dat T.head ∷ shr 0 tt Segment.the-row ∷ own 1 tt u8 ∷ []
+abbrev ks : List (Kind 4)
+ks = dat T.head ∷ shr 0 tt u32 ∷ shr 1 tt u32 ∷ shr 2 tt Segment.the-row ∷ own 3 tt u8 ∷ []
 
 module _ {M : Type 1} (𝓤 : URA M) (H : Heap 𝓤) (𝓜 : Model 𝓤 H) (𝓖 : GhostRules 𝓤 H) (𝓡 : Running 𝓤 H 𝓜) where
   abbrev A : Atoms 𝓤
@@ -29,45 +29,47 @@ module _ {M : Type 1} (𝓤 : URA M) (H : Heap 𝓤) (𝓜 : Model 𝓤 H) (𝓖
 
   abbrev to-core : Callee 𝓤 H A (𝓣 .C) core-def.name
   to-core =
-      callee 𝓤 H 𝓜 𝓖 𝓡 code.env 4 (dat T.checked ∷ dat T.head ∷ dat N.usize ∷ shr 0 tt u16 ∷ shr 1 tt u16 ∷ shr 2 tt u32 ∷ own 3 tt u8 ∷ []) O.write-answer
+      callee 𝓤 H 𝓜 𝓖 𝓡 code.env 6 (dat T.checked ∷ dat T.head ∷ shr 0 tt u32 ∷ shr 1 tt u32 ∷ dat N.usize ∷ shr 2 tt u16 ∷ shr 3 tt u16 ∷ shr 4 tt u32 ∷ own 5 tt u8 ∷ []) O.write-answer
       (core.clauses 𝓤 H A (𝓜 .mem) (𝓡 .run)) core-def.name core-def.routine code.calls-on-segments·write-taken (core-thm.met 𝓤 H 𝓜 𝓖 𝓡)
 
-  walk : Walk 𝓤 H A (givenOf 𝓤 H 𝓜 𝓖) 2 ks O.write-answer (f.clauses 𝓤 H A (𝓜 .mem) (𝓡 .run)) 𝓣 code.function
+  walk : Walk 𝓤 H A (givenOf 𝓤 H 𝓜 𝓖) 4 ks O.write-answer (f.clauses 𝓤 H A (𝓜 .mem) (𝓡 .run)) 𝓣 code.function
   walk κs qs a g are ok-args P exit =
-      let h = a .0 in let l = now (a .1 .0) in let few = are .1 .0 .0 .1 .0 in
-      drop ! $ begins ! 𝓣 code.function _ P (λ l₀ l₁ l₂ l₃ l₄ l₅ l₆ l₇ l₈ l₉ l₁₀ l₁₁ l₁₂ l₁₃ l₁₄ l₁₅ l₁₆ l₁₇ l₁₈ l₁₉ l₂₀ l₂₁ l₂₂ l₂₃ l₂₄. (
+      let h = a .0 in let l = now (a .1 .1 .1 .0) in let few = are .1 .1 .1 .0 .0 .1 .0 in
+      drop ! $ begins ! 𝓣 code.function _ P (λ l₀ l₁ l₂ l₃ l₄ l₅ l₆ l₇ l₈ l₉ l₁₀ l₁₁ l₁₂ l₁₃ l₁₄ l₁₅ l₁₆ l₁₇ l₁₈ l₁₉ l₂₀ l₂₁ l₂₂ l₂₃ l₂₄ l₂₅ l₂₆. (
         ok-args,
-        -- [_0 … _24; that they die; κ₀; κ₁; segments; room]
+        -- [_0 … _26; that they die; κ₀ … κ₃; p; q; segments; room]
         (counts ! 0 refl refl refl refl (tt, record { fits = few }) $
-            makes-ends 𝓤 H 𝓜 𝓖 𝓡 code.env code.calls-on-segments·for-ends ! (λ x is-x ok-x. land ! (from ! (stop !)) (init ! 9 refl (ok-x .0)) $ assigns ! (of-opd ! (at ! 0 refl)) (from ! (stop !)) (init ! 5 refl (ok-x .0)) $
-            makes-ends 𝓤 H 𝓜 𝓖 𝓡 code.env code.calls-on-segments·for-ends ! (λ y is-y ok-y. land ! (from ! (stop !)) (store ! 9 refl (ok-y .0)) $ assigns ! (of-opd ! (at ! 0 refl)) (from ! (stop !)) (init ! 6 refl (ok-y .0)) $
-            makes-lengths 𝓤 H 𝓜 𝓖 𝓡 code.env code.calls-on-segments·for-lengths ! (λ z is-z ok-z. land ! (from ! (stop !)) (init ! 10 refl (ok-z .0)) $ assigns ! (of-opd ! (at ! 0 refl)) (from ! (stop !)) (init ! 7 refl (ok-z .0)) $
-            let own : Own x y z = record { is-x = is-x; is-y = is-y; is-z = is-z } in let p = places own in
+            makes-ends 𝓤 H 𝓜 𝓖 𝓡 code.env code.calls-on-segments·for-ends ! (λ x is-x ok-x. land ! (from ! (stop !)) (init ! 11 refl (ok-x .0)) $ assigns ! (of-opd ! (at ! 0 refl)) (from ! (stop !)) (init ! 7 refl (ok-x .0)) $
+            makes-ends 𝓤 H 𝓜 𝓖 𝓡 code.env code.calls-on-segments·for-ends ! (λ y is-y ok-y. land ! (from ! (stop !)) (store ! 11 refl (ok-y .0)) $ assigns ! (of-opd ! (at ! 0 refl)) (from ! (stop !)) (init ! 8 refl (ok-y .0)) $
+            makes-lengths 𝓤 H 𝓜 𝓖 𝓡 code.env code.calls-on-segments·for-lengths ! (λ z is-z ok-z. land ! (from ! (stop !)) (init ! 12 refl (ok-z .0)) $ assigns ! (of-opd ! (at ! 0 refl)) (from ! (stop !)) (init ! 9 refl (ok-z .0)) $
+            let own : Own x y z = record { is-x = is-x; is-y = is-y; is-z = is-z } in let w = places own in
             -- the three lists are lent to `take_in`
-            spans ! 0 (p .a-places) (lit< tt) refl tt refl refl tt $ spans ! 0 (p .b-places) (lit< tt) refl tt refl refl tt $ spans ! 0 (p .lengths-places) (lit< tt) refl tt refl refl tt $
-            move ! (5 ∷ 6 ∷ 7 ∷ 26 ∷ 28 ∷ []) $ taking 𝓤 H 𝓜 𝓖 𝓡 code.env code.calls-crossings·take-in (κs .0) (qs .0) h (a .1 .0) own l₅ l₆ l₇ ! (are .0)
-            (λ _ _ _ _ _ _. (and-then ! (at ! 5 refl) (and-then ! (at ! 5 refl) (and-then ! (at ! 2 refl) (and-then ! (at ! 2 refl) (and-then ! (at ! 2 refl) (no-more !))))))) (λ v x′ y′ z′ is-v ok-v own′ taken.
-            land ! (from ! (stop !)) (init ! 10 refl (ok-v .0)) $ let p′ = places own′ in
-            move ! (3 ∷ 4 ∷ 5 ∷ 6 ∷ 7 ∷ 8 ∷ 9 ∷ 0 ∷ 1 ∷ 2 ∷ 10 ∷ 11 ∷ 12 ∷ 13 ∷ 14 ∷ 15 ∷ 16 ∷ 17 ∷ 18 ∷ 19 ∷ 20 ∷ 21 ∷ 22 ∷ 23 ∷ 24 ∷ 25 ∷ 26 ∷ []) $
+            spans ! 0 (w .a-places) (lit< tt) refl tt refl refl tt $ spans ! 0 (w .b-places) (lit< tt) refl tt refl refl tt $ spans ! 0 (w .lengths-places) (lit< tt) refl tt refl refl tt $
+            move ! (7 ∷ 8 ∷ 9 ∷ 28 ∷ 29 ∷ 30 ∷ 32 ∷ 33 ∷ 34 ∷ []) $
+            taking 𝓤 H 𝓜 𝓖 𝓡 code.env code.calls-crossings·take-in (κs .0) (κs .1 .0) (κs .1 .1 .0) (qs .0) (qs .1 .0) (qs .1 .1 .0) h (a .1 .0) (a .1 .1 .0) (a .1 .1 .1 .0) own l₇ l₈ l₉ ! (are .0)
+            (λ _ _ _ _ _ _. (and-then ! (at ! 5 refl) (and-then ! (at ! 5 refl) (and-then ! (at ! 5 refl) (and-then ! (at ! 5 refl) (and-then ! (at ! 2 refl) (and-then ! (at ! 2 refl) (and-then ! (at ! 2 refl) (no-more !))))))))) (λ v x′ y′ z′ is-v ok-v own′ taken.
+            land ! (from ! (stop !)) (init ! 16 refl (ok-v .0)) $ let w′ = places own′ in
+            move ! (3 ∷ 4 ∷ 5 ∷ 6 ∷ 7 ∷ 8 ∷ 9 ∷ 10 ∷ 11 ∷ 12 ∷ 13 ∷ 14 ∷ 15 ∷ 0 ∷ 1 ∷ 2 ∷ 16 ∷ 17 ∷ 18 ∷ 19 ∷ 20 ∷ 21 ∷ 22 ∷ 23 ∷ 24 ∷ 25 ∷ 26 ∷ 27 ∷ 28 ∷ 29 ∷ 30 ∷ 31 ∷ 32 ∷ []) $
             -- and then, with what else is lent, to the step behind it
-            spans ! 2 (p′ .a-places) (lit< tt) refl tt refl refl tt $ spans ! 2 (p′ .b-places) (lit< tt) refl tt refl refl tt $ spans ! 2 (p′ .lengths-places) (lit< tt) refl tt refl refl tt $
-            relends ! 2 refl refl refl (tt, tt) refl refl refl refl (ok-args .1 .1 .0) $
-            move ! (7 ∷ 8 ∷ 9 ∷ []) $ lends-three ! tt own′ l₅ l₆ l₇ (λ α′ β′ δ′ γx′ γy′ γz′.
-            let stands : Stands v h (length l) x′ y′ z′ l = record { count = refl; places = p′; taken = taken } in
-            move ! (0 ∷ 1 ∷ 2 ∷ 34 ∷ 3 ∷ 4 ∷ 5 ∷ 35 ∷ []) $ calls ! 𝓣 to-core (α′ ∷ [], (β′ ∷ [], (δ′ ∷ [], κs .1))) (fullShare, (fullShare, (fullShare, qs .1)))
-            (v, (h, (length l, (record { ptr = (l₅, 0); name = γx′; now = x′ }, (record { ptr = (l₆, 0); name = γy′; now = y′ }, (record { ptr = (l₇, 0); name = γz′; now = z′ }, a .1 .1)))))) tt
+            spans ! 6 (w′ .a-places) (lit< tt) refl tt refl refl tt $ spans ! 6 (w′ .b-places) (lit< tt) refl tt refl refl tt $ spans ! 6 (w′ .lengths-places) (lit< tt) refl tt refl refl tt $
+            relends ! 6 refl refl refl (tt, tt) refl refl refl refl (ok-args .1 .1 .1 .1 .0) $
+            move ! (13 ∷ 14 ∷ 15 ∷ []) $ lends-three ! tt own′ l₇ l₈ l₉ (λ α′ β′ δ′ γx′ γy′ γz′.
+            let stands : Stands v h (now (a .1 .0)) (now (a .1 .1 .0)) (length l) x′ y′ z′ l = record { count = refl; places = w′; taken = taken } in
+            move ! (9 ∷ 10 ∷ 0 ∷ 1 ∷ 2 ∷ 40 ∷ 12 ∷ 13 ∷ 3 ∷ 4 ∷ 5 ∷ 41 ∷ []) $
+            calls ! 𝓣 to-core (κs .0, (κs .1 .0, (α′ ∷ [], (β′ ∷ [], (δ′ ∷ [], κs .1 .1 .1))))) (qs .0, (qs .1 .0, (fullShare, (fullShare, (fullShare, qs .1 .1 .1)))))
+            (v, (h, (a .1 .0, (a .1 .1 .0, (length l, (record { ptr = (l₇, 0); name = γx′; now = x′ }, (record { ptr = (l₈, 0); name = γy′; now = y′ }, (record { ptr = (l₉, 0); name = γz′; now = z′ }, a .1 .1 .1 .1)))))))) tt
             (is-v, (are .0, ((refl, few), tt))) (factI 𝓤 _ _ (record { list = l; stands = stands }))
-            (and-then ! (at ! 4 refl) (and-then ! (at ! 7 refl) (and-then ! (at ! 7 refl) (and-then ! (at ! 4 refl) (and-then ! (at ! 4 refl) (and-then ! (at ! 4 refl) (and-then ! (at ! 4 refl) (no-more !))))))))
-            (λ r ws′. OfTaken v h (length l) x′ y′ z′ (λ n. Writes n (length l) (now (a .1 .1 .0)) r (ws′ .1 .1 .1 .1 .1 .1 .0))) (λ r ws′. id⊢ 𝓤 _) (λ r ws′ is-r ok-r done same′.
-            land ! (from ! (stop !)) (init ! 13 refl (ok-r .0)) $
-            move ! (0 ∷ 1 ∷ 2 ∷ 8 ∷ 9 ∷ 10 ∷ []) $ back-three ! tt own′ l₅ l₆ l₇ (
-            returns ! (look ! 10 refl) $
-            move ! (32 ∷ 10 ∷ 11 ∷ 12 ∷ 13 ∷ 14 ∷ 0 ∷ 1 ∷ 2 ∷ 15 ∷ 16 ∷ 17 ∷ 18 ∷ 19 ∷ 20 ∷ 21 ∷ 22 ∷ 23 ∷ 24 ∷ 25 ∷ 26 ∷ 27 ∷ 28 ∷ 29 ∷ 30 ∷ 31 ∷ []) $
-            gone ! $ gone ! $ gone ! $ gone ! $ gone ! $ gone ! $ gone ! $ gone ! $ gone ! $ gone ! $ gone ! $ gone ! $ gone ! $ gone ! $ gone ! $ gone ! $ gone ! $ gone ! $ gone ! $ gone ! $ gone ! $ gone ! $ gone ! $ gone ! $ gone ! $ free0 ! $
-            keep ! (6 ∷ 1 ∷ 7 ∷ 5 ∷ []) $
-            by ! (exit r (tt, (tt, ws′ .1 .1 .1 .1 .1 .1)) is-r same′ (factI 𝓤 _ _ (done l stands))))))))))),
+            (and-then ! (at ! 4 refl) (and-then ! (at ! 7 refl) (and-then ! (at ! 7 refl) (and-then ! (at ! 7 refl) (and-then ! (at ! 7 refl) (and-then ! (at ! 4 refl) (and-then ! (at ! 4 refl) (and-then ! (at ! 4 refl) (and-then ! (at ! 4 refl) (no-more !))))))))))
+            (λ r ws′. OfTaken v h (now (a .1 .0)) (now (a .1 .1 .0)) (length l) x′ y′ z′ (λ n k. Writes n (length l) k (now (a .1 .1 .1 .1 .0)) r (ws′ .1 .1 .1 .1 .1 .1 .1 .1 .0))) (λ r ws′. id⊢ 𝓤 _) (λ r ws′ is-r ok-r done same′.
+            land ! (from ! (stop !)) (init ! 17 refl (ok-r .0)) $
+            move ! (2 ∷ 3 ∷ 4 ∷ 12 ∷ 13 ∷ 14 ∷ []) $ back-three ! tt own′ l₇ l₈ l₉ (
+            returns ! (look ! 14 refl) $
+            move ! (38 ∷ 14 ∷ 15 ∷ 16 ∷ 17 ∷ 18 ∷ 19 ∷ 20 ∷ 0 ∷ 1 ∷ 2 ∷ 21 ∷ 22 ∷ 23 ∷ 24 ∷ 25 ∷ 26 ∷ 27 ∷ 28 ∷ 29 ∷ 30 ∷ 31 ∷ 32 ∷ 33 ∷ 34 ∷ 35 ∷ 36 ∷ 37 ∷ []) $
+            gone ! $ gone ! $ gone ! $ gone ! $ gone ! $ gone ! $ gone ! $ gone ! $ gone ! $ gone ! $ gone ! $ gone ! $ gone ! $ gone ! $ gone ! $ gone ! $ gone ! $ gone ! $ gone ! $ gone ! $ gone ! $ gone ! $ gone ! $ gone ! $ gone ! $ gone ! $ gone ! $ free0 ! $
+            keep ! (1 ∷ 2 ∷ 10 ∷ 3 ∷ 4 ∷ 5 ∷ 11 ∷ 9 ∷ []) $
+            by ! (exit r (tt, (tt, (tt, (tt, ws′ .1 .1 .1 .1 .1 .1 .1 .1)))) is-r same′ (factI 𝓤 _ _ (done l stands))))))))))),
       ))
 
 pub write-spec : {M : Type 1} → stated.statement M
 unfolding code.routine
-write-spec 𝓤 H 𝓜 𝓖 𝓡 = solved 𝓤 H 𝓜 𝓖 𝓡 code.env 2 ks O.write-answer (f.clauses 𝓤 H (𝓖 .A) (𝓜 .mem) (𝓡 .run)) key.name code.function (code.unfolded 𝓤 H 𝓜 𝓡) (walk 𝓤 H 𝓜 𝓖 𝓡)
+write-spec 𝓤 H 𝓜 𝓖 𝓡 = solved 𝓤 H 𝓜 𝓖 𝓡 code.env 4 ks O.write-answer (f.clauses 𝓤 H (𝓖 .A) (𝓜 .mem) (𝓡 .run)) key.name code.function (code.unfolded 𝓤 H 𝓜 𝓡) (walk 𝓤 H 𝓜 𝓖 𝓡)

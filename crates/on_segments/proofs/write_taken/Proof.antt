@@ -12,19 +12,19 @@ enum-told : tie.Need-enum-told
 enum-told c = search needs
 
 slice-aggregate-write-sound : tie.Need-slice-aggregate-write-sound
-slice-aggregate-write-sound c = simp length-take (omega (arith, front-in (c .before .before .before .before .before .before .before .pre .stands) (c .before .enum-told .given .1)))
+slice-aggregate-write-sound c = simp length-take (omega (arith, front-in (c .before .before .before .before .before .before .before .before .before .pre .stands) (c .before .enum-told .given .1)))
 
 slice-aggregate-write-sound-2 : tie.Need-slice-aggregate-write-sound-2
-slice-aggregate-write-sound-2 c = simp length-take (omega (arith, front-in (c .before .before .before .before .before .before .before .before .pre .stands) (c .before .before .enum-told .given .1)))
+slice-aggregate-write-sound-2 c = simp length-take (omega (arith, front-in (c .before .before .before .before .before .before .before .before .before .before .pre .stands) (c .before .before .enum-told .given .1)))
 
 slice-aggregate-write-sound-3 : tie.Need-slice-aggregate-write-sound-3
-slice-aggregate-write-sound-3 c = simp length-take (omega (arith, front-in (c .before .before .before .before .before .before .before .before .before .pre .stands) (c .before .before .before .enum-told .given .1)))
+slice-aggregate-write-sound-3 c = simp length-take (omega (arith, front-in (c .before .before .before .before .before .before .before .before .before .before .before .pre .stands) (c .before .before .before .enum-told .given .1)))
 
 write-sound-requires : tie.Need-write-sound-requires
-write-sound-requires c κs = front-ready (c .before .before .before .before .before .before .before .before .before .before .pre .stands) (c .before .before .before .before .enum-told .given .1)
+write-sound-requires c κs = front-ready (c .before .before .before .before .before .before .before .before .before .before .before .before .pre .stands) (c .before .before .before .before .enum-told .given .1)
 
 returns : tie.Need-returns
-returns c = λ l t. write-refused t (c .before .says .given .1) _
+returns c = λ l t. write-refused t (c .before .says .given .1) _ _
 
 same-length : tie.Need-same-length
 same-length c = search needs

@@ -35,10 +35,10 @@ enum-known-count-2 : tie.Need-enum-known-count-2
 enum-known-count-2 c = search needs
 
 returns : tie.Need-returns
-returns c = head-refused (head-stops _ _ _ _ _ (three-stops _ _ _ (c .before .before .before .three-of .ensures) (c .before .three .given .1))) refl
+returns c = head-refused (head-stops _ _ _ _ _ _ (three-stops _ _ _ (c .before .before .before .three-of .ensures) (c .before .three .given .1))) refl
 
 returns-2 : tie.Need-returns-2
-returns-2 c = head-refused (fourth-refused _ _ _ _ _ (three-gives _ _ _ _ _ _ (c .before .before .before .before .before .before .before .three-of .ensures) (c .before .before .before .before .before .three2 .given .1)) (c .before .before .q .given .1)) (c .refusal-at .ensures)
+returns-2 c = head-refused (fourth-refused _ _ _ _ _ _ (three-gives _ _ _ _ _ _ (c .before .before .before .before .before .before .before .three-of .ensures) (c .before .before .before .before .before .three2 .given .1)) (c .before .before .q .given .1)) (c .refusal-at .ensures)
 
 returns-3 : tie.Need-returns-3
 returns-3 c =
@@ -47,7 +47,7 @@ returns-3 c =
     let q2′ = c .before .before .before .before .before .q2 in
     let count′ = c .before .before .count in
     let refusal-at2′ = c .refusal-at2 in
-    head-refused (fifth-refused _ _ _ _ _ (three-gives _ _ _ _ _ _ (three-of′ .ensures) (three2′ .given .1)) (q2′ .given .1) (count′ .given .1)) (refusal-at2′ .ensures)
+    head-refused (fifth-refused _ _ _ _ _ _ (three-gives _ _ _ _ _ _ (three-of′ .ensures) (three2′ .given .1)) (q2′ .given .1) (count′ .given .1)) (refusal-at2′ .ensures)
 
 returns-4 : tie.Need-returns-4
 returns-4 c =
@@ -55,7 +55,7 @@ returns-4 c =
     let three2′ = c .before .before .before .before .before .before .before .three2 in
     let q2′ = c .before .before .before .before .q2 in
     let count2′ = c .before .count2 in
-    head-read (five-given _ _ _ _ _ (three-gives _ _ _ _ _ _ (three-of′ .ensures) (three2′ .given .1)) (q2′ .given .1) (count2′ .given .1))
+    head-read (five-given _ _ _ _ _ _ (three-gives _ _ _ _ _ _ (three-of′ .ensures) (three2′ .given .1)) (q2′ .given .1) (count2′ .given .1))
 
 pub head-of-spec : {M : Type 1} → statement M
 head-of-spec =

@@ -1,8 +1,7 @@
 -- `head_says` meets its contract: 10 or 11, 1 to 4, 8. Assumes nothing.
-use native.Mathlib.Omega.{arith}
 use borrow.Author.Needs.{needs}
 use Rattle.writing.proofs.Lines.{refused-lines, sound-lines}
-use Rattle.reading.proofs.Turns.{head-unread, head-breaks, head-wide, head-good}
+use Rattle.reading.proofs.Turns.{head-unread, head-breaks, head-passes}
 use Rattle.reading.proofs.head_says.Statement.{statement}
 use Rattle.reading.proofs.head_says.Tie as tie
 
@@ -24,20 +23,17 @@ enum-known-checked c = search needs
 enum-told : tie.Need-enum-told
 enum-told c = search needs
 
-refusal-at-requires : tie.Need-refusal-at-requires
-refusal-at-requires c κs = search needs
+room-says-requires : tie.Need-room-says-requires
+room-says-requires c κs = search needs
 
 returns : tie.Need-returns
-returns c = head-wide _ (c .before .before .before .before .before .before .head2 .given .1) (sound-lines _ _ (c .before .before .before .before .check-head .ensures) (c .before .before .enum-told .given .1)) (omega arith) (c .refusal-at .ensures)
+returns c = head-unread _ _ (c .before .head .given .1)
 
 returns-2 : tie.Need-returns-2
-returns-2 c = head-unread _ (c .before .head .given .1)
+returns-2 c = head-breaks _ _ (c .before .before .before .before .before .head2 .given .1) (refused-lines _ _ _ (c .before .before .before .check-head .ensures) (c .before .checked .given .1))
 
 returns-3 : tie.Need-returns-3
-returns-3 c = head-breaks _ (c .before .before .before .before .before .head2 .given .1) (refused-lines _ _ _ (c .before .before .before .check-head .ensures) (c .before .checked .given .1))
-
-returns-4 : tie.Need-returns-4
-returns-4 c = head-good _ (c .before .before .before .before .before .head2 .given .1) (sound-lines _ _ (c .before .before .before .check-head .ensures) (c .before .enum-told .given .1)) (omega arith)
+returns-3 c = head-passes _ _ (c .before .before .before .before .before .head2 .given .1) (sound-lines _ _ (c .before .before .before .check-head .ensures) (c .before .enum-told .given .1)) (c .room-says .ensures)
 
 pub head-says-spec : {M : Type 1} → statement M
 head-says-spec =
@@ -49,8 +45,7 @@ head-says-spec =
     check-head-requires
     enum-known-checked
     enum-told
-    refusal-at-requires
+    room-says-requires
     returns
     returns-2
-    returns-3
-    returns-4)
+    returns-3)

@@ -18,7 +18,7 @@ slice-aggregate-index-2 c = search needs
 
 index-requires : tie.Need-index-requires
 index-requires c κs =
-    let r = c .before .before .before .before .before .before .before .before .before .before .pre .0 in
+    let r = c .before .before .before .before .before .before .before .before .before .before .before .before .pre .0 .0 in
     let k = ready-posts r in
     let m = ready-few r in
     (omega (arith, c .before .before .index-of .ensures), omega arith, m)
@@ -31,7 +31,7 @@ slice-aggregate-trees-by-2 c = search needs
 
 trees-by-requires : tie.Need-trees-by-requires
 trees-by-requires c κs =
-    let p = c .before .before .before .before .before .before .before .before .before .before .before .before .before .before .before .before .before .before .before .pre in
+    let p = c .before .before .before .before .before .before .before .before .before .before .before .before .before .before .before .before .before .before .before .before .before .pre in
     (p .0, (index-at (sym (c .before .before .before .before .before .before .before .before .before .before .before .index-of .ensures)) (c .before .before .before .before .before .before .before .before .index .ensures .0), p .1))
 
 same-length : tie.Need-same-length

@@ -1,5 +1,6 @@
 -- `trees_by` meets its contract: the lowest post without a least length is that of 9; where there is none, the other two trees follow. Assumes nothing.
 use Rattle.net.proofs.Ready.{ready-posts, ready-source}
+use Rattle.trees.proofs.Ratios.{ready-plain, plain-lightest}
 use Rattle.trees.proofs.Ready.{ends-at, index-at, worked-at}
 use Rattle.trees.proofs.Preparing.{prepares-apart, prepares-joined}
 use native.Mathlib.Omega.{arith}
@@ -15,8 +16,8 @@ index-of-requires-2 c κs = search needs
 
 shortest-tree-requires : tie.Need-shortest-tree-requires
 shortest-tree-requires c κs =
-    let p = c .before .before .before .before .before .before .before .before .before .before .before .before .before .pre in
-    let r = p .0 in
+    let p = c .before .before .before .before .before .before .before .before .before .before .before .before .before .before .before .pre in
+    let r = p .0 .0 in
     let e = c .before .before .before .index-of .ensures in
     (ends-at r e, (index-at e (p .1 .0), (omega (arith, ready-source r), omega (arith, ready-posts r), r .lengths-level, omega arith, omega arith)))
 
@@ -24,7 +25,7 @@ lowest-apart-requires : tie.Need-lowest-apart-requires
 lowest-apart-requires c κs = omega arith
 
 cast-lowest : tie.Need-cast-lowest
-cast-lowest c = omega arith
+cast-lowest c = omega (arith, c .if1 .taken, ready-posts (c .before .before .before .before .before .before .before .before .before .before .before .before .before .before .before .before .before .before .before .before .before .before .before .pre .0 .0))
 
 same-length : tie.Need-same-length
 same-length c = omega arith
@@ -34,28 +35,29 @@ same-length-2 c = omega arith
 
 returns : tie.Need-returns
 returns c =
-    let s = c .before .before .before .before .before .before .before .before .before .before .before .before .before .before .before .before .before .before .before .before .before in
+    let s = c .before .before .before .before .before .before .before .before .before .before .before .before .before .before .before .before .before .before .before .before .before .before .before in
     let p = s .pre in
     let a = s .args in
     let t = c .before .before .before .before .before .before .before .shortest-tree .ensures in
     let posts-is = c .before .before .before .before .before .before .before .before .before .before .before .index-of .ensures in
     let source-is = c .before .before .before .before .before .before .before .before .before .before .index-of2 .ensures in
-    prepares-apart (p .0) posts-is source-is (a .dist .now) (a .short .now) (p .1 .1 .0) (p .1 .1 .2)
+    prepares-apart (p .0 .0) posts-is source-is (a .dist .now) (a .short .now) (p .1 .1 .0) (p .1 .1 .2)
     (t .0) (t .1) (c .before .lowest-apart .ensures) (c .if1 .taken) (a .light .now) (a .third .now)
 
 lightest-tree-requires : tie.Need-lightest-tree-requires
-lightest-tree-requires c κs = let p = c .before .before .before .before .before .before .before .before .before .before .before .before .before .before .before .before .before .before .before .before .before .before .pre in (p .0, (p .1 .0, p .1 .1 .1))
+lightest-tree-requires c κs = let p = c .before .before .before .before .before .before .before .before .before .before .before .before .before .before .before .before .before .before .before .before .before .before .before .before .pre in (ready-plain (p .0 .0), (p .1 .0, p .1 .1 .1))
 
 third-tree-requires : tie.Need-third-tree-requires
 third-tree-requires c κs =
-    let s = c .before .before .before .before .before .before .before .before .before .before .before .before .before .before .before .before .before .before .before .before .before .before .before .before .before .before .before .before .before in
+    let s = c .before .before .before .before .before .before .before .before .before .before .before .before .before .before .before .before .before .before .before .before .before .before .before .before .before .before .before .before .before .before .before in
     let p = s .pre in
     let q = p .1 .1 in
     let t = c .before .before .before .before .before .before .before .before .before .before .before .before .before .before .before .shortest-tree .ensures in
     let posts-is = c .before .before .before .before .before .before .before .before .before .before .before .before .before .before .before .before .before .before .before .index-of .ensures in
     let source-is = c .before .before .before .before .before .before .before .before .before .before .before .before .before .before .before .before .before .before .index-of2 .ensures in
-    let w = worked-at (p .0) posts-is source-is (s .args .dist .now) (s .args .short .now) (q .0) (q .2) (t .0) (t .1) in
-    ((p .0, q .3), (w, c .before .before .before .before .before .before .lightest-tree .ensures))
+    let w = worked-at (p .0 .0) posts-is source-is (s .args .dist .now) (s .args .short .now) (q .0) (q .2) (t .0) (t .1) in
+    let x = s .args in
+    (p .0, (q .3, (w, plain-lightest (x .head) (x .p .now) (x .q .now) (x .a .now) (x .b .now) (x .lengths .now) (c .before .before .before .before .before .before .lightest-tree .ensures))))
 
 same-length-3 : tie.Need-same-length-3
 same-length-3 c = omega arith
@@ -71,15 +73,15 @@ same-length-6 c = omega arith
 
 returns-2 : tie.Need-returns-2
 returns-2 c =
-    let s = c .before .before .before .before .before .before .before .before .before .before .before .before .before .before .before .before .before .before .before .before .before .before .before .before .before .before .before .before .before .before .before .before in
+    let s = c .before .before .before .before .before .before .before .before .before .before .before .before .before .before .before .before .before .before .before .before .before .before .before .before .before .before .before .before .before .before .before .before .before .before in
     let p = s .pre in
     let a = s .args in
     let t = c .before .before .before .before .before .before .before .before .before .before .before .before .before .before .before .before .before .before .shortest-tree .ensures in
     let posts-is = c .before .before .before .before .before .before .before .before .before .before .before .before .before .before .before .before .before .before .before .before .before .before .index-of .ensures in
     let source-is = c .before .before .before .before .before .before .before .before .before .before .before .before .before .before .before .before .before .before .before .before .before .index-of2 .ensures in
-    prepares-joined (p .0) posts-is source-is (a .dist .now) (a .short .now) (p .1 .1 .0) (p .1 .1 .2)
+    prepares-joined (p .0 .0) posts-is source-is (a .dist .now) (a .short .now) (p .1 .1 .0) (p .1 .1 .2)
     (t .0) (t .1) (c .before .before .before .before .before .before .before .before .before .before .before .before .lowest-apart .ensures) (omega (arith, c .before .before .before .before .before .before .before .before .before .before .before .if1 .left)) (a .light .now) (a .third .now)
-    (c .before .before .before .before .before .before .before .before .before .lightest-tree .ensures) (c .before .before .third-tree .ensures)
+    (plain-lightest (a .head) (a .p .now) (a .q .now) (a .a .now) (a .b .now) (a .lengths .now) (c .before .before .before .before .before .before .before .before .before .lightest-tree .ensures)) (c .before .before .third-tree .ensures)
 
 pub trees-by-spec : {M : Type 1} → statement M
 trees-by-spec =

@@ -1,58 +1,27 @@
--- `head_size` meets its contract: the length of five runs of bytes is the sum of their lengths. Assumes nothing.
+-- `head_size` meets its contract: the first number and the five. Assumes nothing.
 use native.Mathlib.Omega.{arith}
 use borrow.Author.Needs.{needs}
 use Rattle.writing.proofs.Puts.{head-length}
 use Rattle.writing.proofs.head_size.Statement.{statement}
 use Rattle.writing.proofs.head_size.Tie as tie
 
-number-size-requires : tie.Need-number-size-requires
-number-size-requires c κs = search needs
+form-size-requires : tie.Need-form-size-requires
+form-size-requires c κs = search needs
 
-number-size-requires-2 : tie.Need-number-size-requires-2
-number-size-requires-2 c κs = search needs
+numbers-size-requires : tie.Need-numbers-size-requires
+numbers-size-requires c κs = search needs
 
 add-result : tie.Need-add-result
 add-result c = search needs
 
-number-size-requires-3 : tie.Need-number-size-requires-3
-number-size-requires-3 c κs = search needs
-
-add-result-2 : tie.Need-add-result-2
-add-result-2 c = search needs
-
-number-size-requires-4 : tie.Need-number-size-requires-4
-number-size-requires-4 c κs = search needs
-
-add-result-3 : tie.Need-add-result-3
-add-result-3 c = search needs
-
-number-size-requires-5 : tie.Need-number-size-requires-5
-number-size-requires-5 c κs = search needs
-
-add-result-4 : tie.Need-add-result-4
-add-result-4 c = search needs
-
 returns : tie.Need-returns
-returns c =
-    let start = c .before .before .before .before .before in
-    let number-size′ = c .before .before .before .before .number-size in
-    let number-size2′ = c .before .before .before .number-size2 in
-    let number-size3′ = c .before .before .number-size3 in
-    let number-size4′ = c .before .number-size4 in
-    let number-size5′ = c .number-size5 in
-    (omega (arith, head-length (start .args .head) (start .args .count), number-size5′ .ensures .0, number-size4′ .ensures .0, number-size3′ .ensures .0, number-size2′ .ensures .0, number-size′ .ensures .0), omega arith)
+returns c = (omega (arith, head-length (c .before .before .args .head) (c .before .before .args .count), c .before .form-size .ensures .0, c .numbers-size .ensures .0), omega arith)
 
 pub head-size-spec : {M : Type 1} → statement M
 head-size-spec =
     tie.close
     (tie.spec
-    number-size-requires
-    number-size-requires-2
+    form-size-requires
+    numbers-size-requires
     add-result
-    number-size-requires-3
-    add-result-2
-    number-size-requires-4
-    add-result-3
-    number-size-requires-5
-    add-result-4
     returns)

@@ -1,72 +1,94 @@
--- `write_sound` meets its contract: 18, or the head followed by the segments. Assumes nothing.
+-- `write_sound` meets its contract: 8, 18, or the record. Assumes nothing.
 use Prim.Native.Nat.{_+_}
 use native.Mathlib.Omega.{arith}
 use borrow.Author.Needs.{needs}
-use Rattle.net.proofs.Ready.{ready-few}
-use Rattle.writing.proofs.Writes.{head-fits, segments-fit, short-writes, long-writes}
+use Rattle.net.proofs.Ready.{ready-few, ready-posts}
+use Rattle.writing.proofs.Posts.{both-long}
+use Rattle.writing.proofs.Writes.{few-writes, enough-of, whole-length, short-writes, long-writes}
 use Rattle.writing.proofs.write_sound.Statement.{statement}
 use Rattle.writing.proofs.write_sound.Tie as tie
 
-cast-count : tie.Need-cast-count
-cast-count c = omega (arith, ready-few (c .before .before .before .before .pre))
+too-few-requires : tie.Need-too-few-requires
+too-few-requires c κs = search needs
+
+refused-requires : tie.Need-refused-requires
+refused-requires c κs = search needs
+
+returns : tie.Need-returns
+returns c = let z = c .before .before .before .before .before .before .before .before .before in few-writes (z .pre) (z .args .room .now) (c .before .before .too-few .ensures) (c .before .if1 .taken) (c .refused .ensures)
 
 segments-size-requires : tie.Need-segments-size-requires
-segments-size-requires c κs = let p = c .before .before .before .before .pre in (p .b-level, p .lengths-level, ready-few p)
+segments-size-requires c κs = let p = c .before .before .before .before .before .before .before .before .pre in (p .b-level, p .lengths-level, ready-few p)
+
+cast-head-size : tie.Need-cast-head-size
+cast-head-size c = omega (arith, ready-few (c .before .before .before .before .before .before .before .before .before .pre))
 
 head-size-requires : tie.Need-head-size-requires
 head-size-requires c κs = search needs
 
+own-size-requires : tie.Need-own-size-requires
+own-size-requires c κs =
+    let z = c .before .before .before .before .before .before .before .before .before .before in
+    let e = enough-of (c .before .before .before .before .before .before .before .before .before .before .pre) (c .before .before .before .too-few .ensures) (c .before .before .if1 .left) in
+    let l = both-long (z .args .p .now) (z .args .q .now) e in
+    (ready-posts (z .pre), l .0, l .1)
+
 add-whole : tie.Need-add-whole
 add-whole c = search needs
 
-returns : tie.Need-returns
-returns c =
-    let h = c .before .head-size in
-    let s = c .before .before .segments-size in
-    let e = h .ensures .0 in
-    let f = s .ensures .0 in
-    short-writes (c .before .before .before .before .before .before .before .pre) (c .before .before .before .before .before .before .before .args .room .now) {whole = h .result + s .result} (omega arith) (omega arith)
+add-whole-2 : tie.Need-add-whole-2
+add-whole-2 c = search needs
 
-put-head-requires : tie.Need-put-head-requires
-put-head-requires c κs = head-fits (c .before .before .before .before .before .before .before .before .pre) (omega (arith, c .before .before .head-size .ensures .0))
+refused-requires-2 : tie.Need-refused-requires-2
+refused-requires-2 c κs = search needs
 
-put-segments-requires : tie.Need-put-segments-requires
-put-segments-requires c κs =
-    let p = c .before .before .before .before .before .before .before .before .before .before .before .before .pre in
-    let h = c .before .before .before .before .before .before .head-size .ensures .0 in
-    let s = c .before .before .before .before .before .before .before .segments-size .ensures .0 in
-    let q = c .before .before .before .put-head in
-    (p .b-level, p .lengths-level, segments-fit p (omega (arith, h, s, q .ensures .0, q .kept .0)))
+returns-2 : tie.Need-returns-2
+returns-2 c =
+    let z = c .before .before .before .before .before .before .before .before .before .before .before .before .before in
+    let e = enough-of (c .before .before .before .before .before .before .before .before .before .before .before .before .before .pre) (c .before .before .before .before .before .before .too-few .ensures) (c .before .before .before .before .before .if1 .left) in
+    let h = c .before .before .before .head-size in
+    let o = c .before .before .own-size in
+    let s = c .before .before .before .before .segments-size in
+    short-writes (z .pre) e (z .args .room .now) {whole = h .result + o .result + s .result} (omega (arith, whole-length (z .pre) e, h .ensures .0, o .ensures .0, s .ensures .0)) (omega arith) (c .refused2 .ensures)
 
-cast-t18 : tie.Need-cast-t18
-cast-t18 c = search needs
+put-net-requires : tie.Need-put-net-requires
+put-net-requires c κs =
+    let z = c .before .before .before .before .before .before .before .before .before .before .before .before .before in
+    let e = enough-of (c .before .before .before .before .before .before .before .before .before .before .before .before .before .pre) (c .before .before .before .before .before .before .too-few .ensures) (c .before .before .before .before .before .if1 .left) in
+    (z .pre, e, omega (arith, whole-length (z .pre) e, c .before .before .before .head-size .ensures .0, c .before .before .own-size .ensures .0, c .before .before .before .before .segments-size .ensures .0))
+
+cast-t13 : tie.Need-cast-t13
+cast-t13 c = search needs
 
 same-length : tie.Need-same-length
 same-length c = search needs
 
-returns-2 : tie.Need-returns-2
-returns-2 c =
-    let start = c .before .before .before .before .before .before .before .before .before .before .before .before .before .before .before in
-    let segments-size′ = c .before .before .before .before .before .before .before .before .before .before .segments-size in
-    let head-size′ = c .before .before .before .before .before .before .before .before .before .head-size in
-    let put-head′ = c .before .before .before .before .before .before .put-head in
-    let put-segments′ = c .before .before .put-segments in
-    let e = head-size′ .ensures .0 in
-    let f = segments-size′ .ensures .0 in
-    let q = put-head′ .ensures in
-    long-writes (start .pre) (start .args .room .now) (omega arith) (omega arith) (q .0) (q .1) (put-segments′ .ensures)
+returns-3 : tie.Need-returns-3
+returns-3 c =
+    let z = c .before .before .before .before .before .before .before .before .before .before .before .before .before .before .before .before in
+    let e = enough-of (c .before .before .before .before .before .before .before .before .before .before .before .before .before .before .before .before .pre) (c .before .before .before .before .before .before .before .before .before .too-few .ensures)
+    (c .before .before .before .before .before .before .before .before .if1 .left) in
+    let h = c .before .before .before .before .before .before .head-size in
+    let o = c .before .before .before .before .before .own-size in
+    let s = c .before .before .before .before .before .before .before .segments-size in
+    long-writes (z .pre) e (z .args .room .now) {whole = h .result + o .result + s .result} (omega (arith, whole-length (z .pre) e, h .ensures .0, o .ensures .0, s .ensures .0)) (omega arith) (c .before .before .put-net .ensures)
 
 pub write-sound-spec : {M : Type 1} → statement M
 write-sound-spec =
     tie.close
     (tie.spec
-    cast-count
-    segments-size-requires
-    head-size-requires
-    add-whole
+    too-few-requires
+    refused-requires
     returns
-    put-head-requires
-    put-segments-requires
-    cast-t18
+    segments-size-requires
+    cast-head-size
+    head-size-requires
+    own-size-requires
+    add-whole
+    add-whole-2
+    refused-requires-2
+    returns-2
+    put-net-requires
+    cast-t13
     same-length
-    returns-2)
+    returns-3)

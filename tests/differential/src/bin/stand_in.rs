@@ -1,6 +1,5 @@
 //! A stand-in for the program, to test the comparison with: it prints what the
-//! reference says. The environment variable STAND_IN names a slip of document
-//! 01 to make, or `Silent`, `Cut`, `Crash` or `Status` to do something worse.
+//! reference says. The environment variable STAND_IN names a slip to make, or `Silent`, `Cut`, `Crash` or `Status` to do something worse.
 
 use std::env;
 use std::io::{self, Read, Write};
