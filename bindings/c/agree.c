@@ -29,6 +29,10 @@ static const uint8_t apart[] = {2, 0, 1, 1, 0};
 /* Net A in the second form: house ratio 1/1, and the own ratios 1/1, 0/1 and 9/1 of posts 1, 2 and 3. */
 static const uint8_t own[] = {0, 4, 0, 1, 1, 5, 1, 1, 0, 1, 9, 1, 0, 1, 4, 1, 2, 4, 2, 3, 4, 0, 3, 5, 0, 2, 6};
 static const uint8_t own_refused[] = {0, 3, 0, 1, 1, 0, 1, 1, 1, 0};
+/* Net A in the second form, where each post has the house ratio 1/1. */
+static const uint8_t house[] = {0, 4, 0, 1, 1, 5, 1, 1, 1, 1, 1, 1, 0, 1, 4, 1, 2, 4, 2, 3, 4, 0, 3, 5, 0, 2, 6};
+/* Two posts, whose ratio 2/2 isn't the house ratio 1/1 as numbers. */
+static const uint8_t other[] = {0, 2, 0, 1, 1, 1, 2, 2, 0, 1, 4};
 
 static void check(void) {
     expect(drover_check(net_a, sizeof net_a) == 0, "check of net A");
@@ -83,6 +87,37 @@ static void rewrite(void) {
                memcmp(again, own, sizeof own) == 0, "rewrite of own ratios");
 }
 
+static void to_second(void) {
+    uint8_t room[sizeof house + 3];
+    memset(room, 99, sizeof room);
+    expect(drover_to_second(net_a, sizeof net_a, room, sizeof house - 1) ==
+               (DROVER_REFUSED | refusal(DROVER_SHORT_ROOM, 0)), "net A to the second form in short room");
+    expect(room[0] == 99, "room after a move that is refused");
+    expect(drover_to_second(net_a, sizeof net_a, room, sizeof room) == sizeof house, "net A to the second form");
+    expect(memcmp(room, house, sizeof house) == 0 && room[sizeof house] == 99, "net A in the second form");
+    expect(drover_to_second(house, sizeof house, NULL, 0) == (DROVER_REFUSED | refusal(DROVER_SAME_FORM, 0)),
+           "to the second form from the second");
+    expect(drover_to_second(NULL, 0, NULL, 0) == (DROVER_REFUSED | refusal(DROVER_CUT_RECORD, 0)),
+           "no byte to the second form");
+    expect(drover_to_second(apart, sizeof apart, room, sizeof room) == 8, "two posts apart to the second form");
+}
+
+static void to_first(void) {
+    uint8_t room[sizeof net_a + 2];
+    memset(room, 99, sizeof room);
+    expect(drover_to_first(house, sizeof house, room, sizeof net_a - 1) ==
+               (DROVER_REFUSED | refusal(DROVER_SHORT_ROOM, 0)), "net A to the first form in short room");
+    expect(room[0] == 99, "room after a move back that is refused");
+    expect(drover_to_first(house, sizeof house, room, sizeof room) == sizeof net_a, "net A to the first form");
+    expect(memcmp(room, net_a, sizeof net_a) == 0 && room[sizeof net_a] == 99, "net A home again");
+    expect(drover_to_first(net_a, sizeof net_a, NULL, 0) == (DROVER_REFUSED | refusal(DROVER_SAME_FORM, 0)),
+           "to the first form from the first");
+    expect(drover_to_first(other, sizeof other, NULL, 0) == (DROVER_REFUSED | refusal(DROVER_OTHER_RATIO, 1)),
+           "another ratio to the first form");
+    expect(drover_to_first(own, sizeof own, room, sizeof room) == (DROVER_REFUSED | refusal(DROVER_OTHER_RATIO, 2)),
+           "the lowest post with another ratio");
+}
+
 static void margin(void) {
     int64_t out[2] = {99, 99};
     expect(drover_margin(net_a, sizeof net_a, DROVER_LIGHTEST, 3, out, 2) == 0, "margin of post 3");
@@ -114,6 +149,8 @@ int main(int arguments, char **names) {
     plan();
     plan_own();
     rewrite();
+    to_second();
+    to_first();
     margin();
     drawn();
     return failed;

@@ -84,7 +84,11 @@ enum drover_refusal {
     /* the room for the written record is too short; place: 0 */
     DROVER_SHORT_ROOM = 18,
     /* the post asked about isn't below the post count; place: 0 */
-    DROVER_NO_SUCH_POST = 19
+    DROVER_NO_SUCH_POST = 19,
+    /* a post's own p or q isn't the house p or q; place: the lowest such post */
+    DROVER_OTHER_RATIO = 20,
+    /* the record is already of the form wanted; place: 0 */
+    DROVER_SAME_FORM = 30
 };
 
 /* The three trees. */
@@ -111,7 +115,8 @@ enum drover_summary {
     DROVER_SUMMARY = 12 /* how many places there are */
 };
 
-/* In the answers of drover_rewrite and drover_drawn this bit marks a refusal. */
+/* In the answers of drover_rewrite, drover_to_second, drover_to_first and
+ * drover_drawn this bit marks a refusal. */
 #define DROVER_REFUSED ((uint64_t)1 << 63)
 
 /* The number of the refusal in an answer. */
@@ -143,6 +148,23 @@ uint64_t drover_plan(const uint8_t *record, size_t record_length,
  * written stay as they were. */
 uint64_t drover_rewrite(const uint8_t *record, size_t record_length,
                         uint8_t *room, size_t room_length);
+
+/* Reads a record of the first form and writes it in the second into the room:
+ * every post but the source has the house ratio as its own. The net needn't be
+ * joined. Answers the length written, or DROVER_REFUSED and the refusal (the
+ * reader's, 30 for a record of the second form, or 18). Bytes beyond the length
+ * written stay as they were. */
+uint64_t drover_to_second(const uint8_t *record, size_t record_length,
+                          uint8_t *room, size_t room_length);
+
+/* Reads a record of the second form and writes it in the first into the room,
+ * which gives the bytes that drover_to_second was given. Every post's own p and
+ * q must be the house p and q, as numbers: 2/2 isn't 1/1. Answers the length
+ * written, or DROVER_REFUSED and the refusal (the reader's, 30 for a record of
+ * the first form, 20, or 18). Bytes beyond the length written stay as they
+ * were. */
+uint64_t drover_to_first(const uint8_t *record, size_t record_length,
+                         uint8_t *room, size_t room_length);
 
 /* Reads a record and works out the margin of a post in one of its trees (enum
  * drover_tree; any larger number is DROVER_BETWEEN): (p + q) times the post's

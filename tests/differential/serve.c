@@ -8,7 +8,7 @@
 
 enum { RECORD, LIGHTEST, SHORTEST, BETWEEN, SUMMARY, LISTS, GUARD = 16, CANARY = 0xa5 };
 
-enum { CHECK, PLAN, REWRITE, MARGIN, DRAWN };
+enum { CHECK, PLAN, REWRITE, MARGIN, DRAWN, TO_SECOND, TO_FIRST };
 
 struct request {
     uint64_t function, numbers[3], lengths[LISTS];
@@ -66,6 +66,10 @@ static uint64_t answer_to(const struct request *asked, struct list *lists) {
                              (int64_t *)lists[1].lent, lists[1].length / 8);
     case DRAWN:
         return drover_drawn((uint32_t)numbers[0], numbers[1], numbers[2]);
+    case TO_SECOND:
+        return drover_to_second(record, length, lists[1].lent, lists[1].length);
+    case TO_FIRST:
+        return drover_to_first(record, length, lists[1].lent, lists[1].length);
     }
     ended("no such function");
     return 0;

@@ -4,7 +4,7 @@
 use std::fs;
 use std::path::Path;
 
-use crate::{raw, Reason, Tree, MOST_POSTS, MOST_SEGMENTS, SOURCE_ENTRY};
+use crate::{raw, Reason, Tree, LONGEST_RECORD, MOST_POSTS, MOST_SEGMENTS, SOURCE_ENTRY};
 
 fn text(path: &str) -> String {
     let path = Path::new(env!("CARGO_MANIFEST_DIR")).join(path);
@@ -109,7 +109,7 @@ fn the_same_functions_with_the_same_parameters() {
         .map(|item| item.replace("( ", "(").replace(", )", ")"))
         .collect();
     assert_eq!(in_header, in_crate);
-    assert_eq!(in_crate.len(), 5);
+    assert_eq!(in_crate.len(), 7);
 }
 
 #[test]
@@ -138,15 +138,16 @@ fn the_same_trees_and_summary() {
 #[test]
 fn the_same_numbers() {
     let header = header();
+    // 256 posts, 2,048 segments, and each number as long as it may be: a head of
+    // 1 + 2 + 2 + 2 + 2 + 2 bytes, 255 ratios of 4 and segments of 7; five more
+    // make a last segment of three four-byte numbers.
+    assert_eq!(LONGEST_RECORD, 11 + 255 * 4 + MOST_SEGMENTS * 7);
     for (name, number) in [
         ("DROVER_MOST_POSTS", MOST_POSTS),
         ("DROVER_MOST_SEGMENTS", MOST_SEGMENTS),
         ("DROVER_SOURCE_ENTRY", SOURCE_ENTRY.into()),
-        // 256 posts, 2,048 segments, and each number as long as it may be: a head
-        // of 1 + 2 + 2 + 2 + 2 + 2 bytes, 255 ratios of 4 and segments of 7; five
-        // more make a last segment of three four-byte numbers.
-        ("DROVER_LONGEST_RECORD", 11 + 255 * 4 + MOST_SEGMENTS * 7),
-        ("DROVER_ENOUGH_BYTES", 15_372),
+        ("DROVER_LONGEST_RECORD", LONGEST_RECORD),
+        ("DROVER_ENOUGH_BYTES", LONGEST_RECORD + 5),
     ] {
         let line = format!("#define {name} {number}\n");
         assert!(header.contains(&line), "{line}");

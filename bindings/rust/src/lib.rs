@@ -50,6 +50,8 @@ use refusal::{nothing_or_refusal, number_or_refusal};
 pub const MOST_POSTS: usize = 256;
 /// The most segments that a net may have.
 pub const MOST_SEGMENTS: usize = 2_048;
+/// The length of the longest good record.
+pub const LONGEST_RECORD: usize = 15_367;
 /// The greatest length of a segment or a run, in sixteenths of a millimetre.
 pub const MOST_LENGTH: u32 = 1_048_575;
 
@@ -105,6 +107,67 @@ pub fn rewrite(record: &[u8]) -> Result<Vec<u8>, Refusal> {
 pub fn rewrite_into(record: &[u8], room: &mut [u8]) -> Result<usize, Refusal> {
     // Never above the room's own length, so nothing is lost.
     number_or_refusal(raw::rewrite(record, room)).map(|length| length as usize)
+}
+
+/// Reads a record of the first form and writes it in the second: every post but
+/// the source has the house ratio as its own. The net needn't be joined, and
+/// plans as before.
+///
+/// # Errors
+/// The reader's refusals, and number 30 if the record is of the second form.
+///
+/// ```
+/// use droverboot::{to_first, to_second};
+///
+/// // Two posts, source 0, house ratio 1/2, one segment of length 300.
+/// let record = [2, 0, 1, 2, 1, 0, 1, 172, 2];
+/// let moved = to_second(&record)?;
+/// assert_eq!(moved, [0, 2, 0, 1, 2, 1, 1, 2, 0, 1, 172, 2]);
+/// assert_eq!(to_first(&moved)?, record);
+/// # Ok::<(), droverboot::Refusal>(())
+/// ```
+pub fn to_second(record: &[u8]) -> Result<Vec<u8>, Refusal> {
+    let mut room = vec![0; LONGEST_RECORD];
+    let length = to_second_into(record, &mut room)?;
+    room.truncate(length);
+    Ok(room)
+}
+
+/// Does what [`to_second`] does, into `room` from its first byte on, and says how
+/// many bytes it took. The bytes beyond stay as they were, and after a refusal
+/// all of them do.
+///
+/// # Errors
+/// The refusals of [`to_second`], and number 18 if the room is too short.
+pub fn to_second_into(record: &[u8], room: &mut [u8]) -> Result<usize, Refusal> {
+    // Never above the room's own length, so nothing is lost.
+    number_or_refusal(raw::to_second(record, room)).map(|length| length as usize)
+}
+
+/// Reads a record of the second form and writes it in the first, which is
+/// possible exactly if every post's own p and q are the house p and q, as
+/// numbers: 2/2 isn't 1/1. After [`to_second`] it gives the old bytes.
+///
+/// # Errors
+/// The reader's refusals, number 30 if the record is of the first form, and
+/// number 20, at the lowest post with another ratio.
+pub fn to_first(record: &[u8]) -> Result<Vec<u8>, Refusal> {
+    // It is shorter than the record was.
+    let mut room = vec![0; record.len()];
+    let length = to_first_into(record, &mut room)?;
+    room.truncate(length);
+    Ok(room)
+}
+
+/// Does what [`to_first`] does, into `room` from its first byte on, and says how
+/// many bytes it took. The bytes beyond stay as they were, and after a refusal
+/// all of them do.
+///
+/// # Errors
+/// The refusals of [`to_first`], and number 18 if the room is too short.
+pub fn to_first_into(record: &[u8], room: &mut [u8]) -> Result<usize, Refusal> {
+    // Never above the room's own length, so nothing is lost.
+    number_or_refusal(raw::to_first(record, room)).map(|length| length as usize)
 }
 
 /// The margin of a post in one of a record's trees, worked out afresh:

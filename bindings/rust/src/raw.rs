@@ -24,6 +24,18 @@ mod c {
             room: *mut u8,
             room_length: usize,
         ) -> u64;
+        pub fn drover_to_second(
+            record: *const u8,
+            record_length: usize,
+            room: *mut u8,
+            room_length: usize,
+        ) -> u64;
+        pub fn drover_to_first(
+            record: *const u8,
+            record_length: usize,
+            room: *mut u8,
+            room_length: usize,
+        ) -> u64;
         pub fn drover_margin(
             record: *const u8,
             record_length: usize,
@@ -41,7 +53,8 @@ mod c {
 /// paths.
 pub const SUMMARY: usize = 12;
 
-/// In the answers of [`rewrite`] and [`drawn`] this bit marks a refusal.
+/// In the answers of [`rewrite`], [`to_second`], [`to_first`] and [`drawn`] this
+/// bit marks a refusal.
 pub const REFUSED: u64 = 1 << 63;
 
 /// Reads a record: 0, or the refusal.
@@ -84,6 +97,22 @@ pub fn plan(
 pub fn rewrite(record: &[u8], room: &mut [u8]) -> u64 {
     // SAFETY: every pointer comes with the length of the slice it points to.
     unsafe { c::drover_rewrite(record.as_ptr(), record.len(), room.as_mut_ptr(), room.len()) }
+}
+
+/// Reads a record of the first form and writes it in the second into the room:
+/// the length written, or [`REFUSED`] and the refusal, after which the room is as
+/// it was.
+pub fn to_second(record: &[u8], room: &mut [u8]) -> u64 {
+    // SAFETY: every pointer comes with the length of the slice it points to.
+    unsafe { c::drover_to_second(record.as_ptr(), record.len(), room.as_mut_ptr(), room.len()) }
+}
+
+/// Reads a record of the second form and writes it in the first into the room:
+/// the length written, or [`REFUSED`] and the refusal, after which the room is as
+/// it was.
+pub fn to_first(record: &[u8], room: &mut [u8]) -> u64 {
+    // SAFETY: every pointer comes with the length of the slice it points to.
+    unsafe { c::drover_to_first(record.as_ptr(), record.len(), room.as_mut_ptr(), room.len()) }
 }
 
 /// Reads a record and puts the margin of a post in a tree (0 lightest, 1

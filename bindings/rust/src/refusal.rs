@@ -79,6 +79,8 @@ reasons! {
     17 TooLong Leg "a drawn length, or both legs together, is above 65,535.9375 mm"
     18 ShortRoom Nothing "the room for the written record is too short"
     19 NoSuchPost Nothing "the post asked about isn't below the post count"
+    20 OtherRatio Post "a post's own p or q isn't the house p or q"
+    30 SameForm Nothing "the record is already of the form wanted"
 }
 
 impl Reason {
@@ -169,13 +171,14 @@ mod tests {
 
     #[test]
     fn every_reason_has_its_number_and_words() {
-        for (number, &reason) in (1..).zip(Reason::ALL) {
-            assert_eq!(reason.number(), number);
-            assert_eq!(Reason::from_number(number), Some(reason));
+        let numbers = (1..=20).chain([30]);
+        assert!(numbers.eq(Reason::ALL.iter().map(|reason| reason.number())));
+        for &reason in Reason::ALL {
+            assert_eq!(Reason::from_number(reason.number()), Some(reason));
         }
-        assert_eq!(Reason::ALL.len(), 19);
-        assert_eq!(Reason::from_number(0), None);
-        assert_eq!(Reason::from_number(20), None);
+        for number in [0, 21, 29, 31] {
+            assert_eq!(Reason::from_number(number), None);
+        }
         let words: std::collections::HashSet<_> = Reason::ALL.iter().map(|r| r.words()).collect();
         assert_eq!(words.len(), Reason::ALL.len());
     }
@@ -200,6 +203,14 @@ mod tests {
             words(Reason::SameEnds, 7),
             "refusal 6 at segment 7: both ends of a segment are the same"
         );
+        assert_eq!(
+            words(Reason::OtherRatio, 2),
+            "refusal 20 at post 2: a post's own p or q isn't the house p or q"
+        );
+        assert_eq!(
+            words(Reason::SameForm, 0),
+            "refusal 30: the record is already of the form wanted"
+        );
         assert!(words(Reason::CutRecord, 3).starts_with("refusal 10 at byte 3: "));
         assert!(words(Reason::Zero, 1).starts_with("refusal 15 at leg 1: "));
         assert!(words(Reason::TooLong, 2).starts_with("refusal 17 at both legs: "));
@@ -221,8 +232,8 @@ mod tests {
     }
 
     #[test]
-    #[should_panic(expected = "the unknown refusal number 20")]
+    #[should_panic(expected = "the unknown refusal number 21")]
     fn no_other_number_is_taken() {
-        let _ = nothing_or_refusal(20 << 32);
+        let _ = nothing_or_refusal(21 << 32);
     }
 }

@@ -1,9 +1,11 @@
-//! The nets and runs that document 01 works by hand, through the library.
+//! The nets and runs that document 01 works by hand, and the moves that Req 02
+//! works, through the library.
 
 use std::fs;
 use std::path::{Path, PathBuf};
 
 use droverboot::{check, drawn, margin, plan, raw, rewrite, rewrite_into};
+use droverboot::{to_first, to_first_into, to_second, to_second_into, LONGEST_RECORD};
 use droverboot::{Reason, Refusal, Run, Tree, MOST_LENGTH, SOURCE_ENTRY};
 
 const NET_A: [u8; 20] = [4, 0, 1, 1, 5, 0, 1, 4, 1, 2, 4, 2, 3, 4, 0, 3, 5, 0, 2, 6];
@@ -15,6 +17,10 @@ const NET_C: [u8; 23] = [
 /// posts 1, 2 and 3.
 const OWN: [u8; 27] = [
     0, 4, 0, 1, 1, 5, 1, 1, 0, 1, 9, 1, 0, 1, 4, 1, 2, 4, 2, 3, 4, 0, 3, 5, 0, 2, 6,
+];
+/// Net A in the second form, where each post has the house ratio 1/1.
+const HOUSE: [u8; 27] = [
+    0, 4, 0, 1, 1, 5, 1, 1, 1, 1, 1, 1, 0, 1, 4, 1, 2, 4, 2, 3, 4, 0, 3, 5, 0, 2, 6,
 ];
 const ONE_POST: [u8; 5] = [1, 0, 1, 1, 0];
 const TWO_POSTS: [u8; 9] = [2, 0, 1, 2, 1, 0, 1, 172, 2];
@@ -129,6 +135,8 @@ fn refused_records() {
         assert_eq!(check(record), refused(reason, place), "{record:?}");
         assert_eq!(plan(record), refused(reason, place), "{record:?}");
         assert_eq!(rewrite(record), refused(reason, place), "{record:?}");
+        assert_eq!(to_second(record), refused(reason, place), "{record:?}");
+        assert_eq!(to_first(record), refused(reason, place), "{record:?}");
         let answer = margin(record, Tree::Between, 0);
         assert_eq!(answer, refused(reason, place), "{record:?}");
     }
@@ -166,6 +174,80 @@ fn room_beyond_the_record_stays_as_it_was() {
         rewrite_into(&TWO_POSTS, &mut []),
         refused(Reason::ShortRoom, 0)
     );
+}
+
+#[test]
+fn records_go_to_the_second_form_and_home_again() {
+    let forward: [(&[u8], &[u8]); 6] = [
+        (&NET_A, &HOUSE),
+        (&TWO_POSTS, &[0, 2, 0, 1, 2, 1, 1, 2, 0, 1, 172, 2]),
+        (
+            &[2, 1, 1, 2, 1, 0, 1, 172, 2],
+            &[0, 2, 1, 1, 2, 1, 1, 2, 0, 1, 172, 2],
+        ),
+        // p is 200: two bytes.
+        (
+            &[3, 1, 200, 1, 3, 0],
+            &[0, 3, 1, 200, 1, 3, 0, 200, 1, 3, 200, 1, 3],
+        ),
+        (&[1, 0, 1, 2, 0], &[0, 1, 0, 1, 2, 0]),
+        // It isn't joined.
+        (&[2, 0, 1, 2, 0], &[0, 2, 0, 1, 2, 0, 1, 2]),
+    ];
+    for (first, second) in forward {
+        assert_eq!(to_second(first).as_deref(), Ok(second));
+        assert_eq!(to_first(second).as_deref(), Ok(first));
+        assert_eq!(to_second(second), refused(Reason::SameForm, 0));
+        assert_eq!(to_first(first), refused(Reason::SameForm, 0));
+    }
+    let moved = to_second(&deepest_net()).expect("of the first form");
+    assert!(moved.len() < LONGEST_RECORD);
+    assert_eq!(plan(&moved), plan(&deepest_net()));
+    assert_eq!(to_first(&moved), Ok(deepest_net()));
+}
+
+#[test]
+fn another_ratio_keeps_a_record_from_going_home() {
+    // As numbers, the lowest post, and never the source.
+    let as_numbers = [0, 2, 0, 1, 1, 1, 2, 2, 0, 1, 4];
+    let mut lowest = HOUSE;
+    lowest[6..12].copy_from_slice(&[1, 1, 2, 1, 1, 2]);
+    let mut source_1 = HOUSE;
+    (source_1[2], source_1[7]) = (1, 2);
+    for (record, place) in [
+        (&as_numbers[..], 1),
+        (&lowest, 2),
+        (&source_1, 0),
+        (&OWN, 2),
+    ] {
+        assert_eq!(to_first(record), refused(Reason::OtherRatio, place));
+        // 20 comes before 18.
+        let answer = to_first_into(record, &mut []);
+        assert_eq!(answer, refused(Reason::OtherRatio, place));
+    }
+}
+
+#[test]
+fn room_beyond_a_moved_record_stays_as_it_was() {
+    let mut room = [99; 30];
+    assert_eq!(to_second_into(&NET_A, &mut room), Ok(27));
+    assert_eq!(room[..27], HOUSE);
+    assert_eq!(room[27..], [99; 3]);
+    let mut room = [99; 22];
+    assert_eq!(to_first_into(&HOUSE, &mut room), Ok(20));
+    assert_eq!(room[..20], NET_A);
+    assert_eq!(room[20..], [99; 2]);
+    let mut short = [99; 26];
+    let answer = to_second_into(&NET_A, &mut short);
+    assert_eq!(answer, refused(Reason::ShortRoom, 0));
+    let answer = to_first_into(&HOUSE, &mut short[..19]);
+    assert_eq!(answer, refused(Reason::ShortRoom, 0));
+    assert_eq!(short, [99; 26]);
+    // 30 doesn't look at the room.
+    let answer = to_second_into(&HOUSE, &mut []);
+    assert_eq!(answer, refused(Reason::SameForm, 0));
+    let answer = to_first_into(&NET_A, &mut []);
+    assert_eq!(answer, refused(Reason::SameForm, 0));
 }
 
 #[test]

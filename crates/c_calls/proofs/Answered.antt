@@ -1,8 +1,9 @@
--- From what `on_records` and `drawn` answer to what the functions for C leave: one law for each case of an answer. Relies on the contracts of `on_records` and on c_numbers' `Fronts`.
+-- From what `on_records`, `moves` and `drawn` answer to what the functions for C leave: one law for each case of an answer. Relies on their contracts and on c_numbers' `Fronts`.
 use mathlib.Core.Path.{_≡_, sym, ap, _∙_}
 use mathlib.Core.List.{List, [], _∷_}
 use Prim.Native.Nat.{ℕ}
 use lib.IntN.{ℤ}
+use Rattle.net.specs.declared.Form.{Form}
 use Rattle.net.specs.declared.Head.{Head}
 use Rattle.net.specs.declared.Measured.{Measured}
 use Rattle.net.specs.declared.Refusal.{Refusal}
@@ -10,15 +11,15 @@ use Rattle.net.specs.declared.Tree.{Tree}
 use Rattle.margins.specs.declared.MarginAnswer.{MarginAnswer}
 use Rattle.margins.specs.declared.MarginAnswer.the-variants.{Margin, Refused as Unmeasured}
 use Rattle.writing.specs.declared.WriteAnswer.{WriteAnswer}
-use Rattle.writing.specs.declared.WriteAnswer.the-variants.{Written, Refused as Unwritten}
 use Rattle.on_records.specs.Asked.{Plans, Rewrites, marginRead}
 use Rattle.on_records.specs.declared.PlanAnswer.{PlanAnswer}
 use Rattle.on_records.specs.declared.PlanAnswer.the-variants.{Planned, Refused as Unplanned}
-use Rattle.c_numbers.specs.Named.{packed, marked, treeNamed}
+use Rattle.moves.specs.Moves.{Moves}
+use Rattle.c_numbers.specs.Named.{packed, treeNamed}
 use Rattle.c_numbers.specs.Lists.{front, twelve}
 use Rattle.c_numbers.proofs.Fronts.{front-none}
 use Rattle.c_calls.specs.Numbers.{planNumber, writeNumber, marginNumber}
-use Rattle.c_calls.specs.Left.{summaryOf, summaryAfter, marginsOf, PlanLeaves, RewriteLeaves, MarginLeaves}
+use Rattle.c_calls.specs.Left.{summaryOf, summaryAfter, marginsOf, PlanLeaves, RewriteLeaves, MoveLeaves, MarginLeaves}
 
 -- an answer v that is to be x, and is y: what is made of y is what is to be made of x
 pub told : {A B : Type 0} (f : A → B) {v x y : A} → v ≡ x → v ≡ y → f y ≡ f x
@@ -44,12 +45,12 @@ module _ {bytes l s w : List ℕ} {a : PlanAnswer} {l′ s′ w′ : List ℕ} (
   plan-planned k e f = leaves (ap planNumber (sym k)) (f ∙ ap (λ (b : List ℕ). front b d) (e ∙ ap summaryOf (sym k)))
 
 -- REWRITE
-module _ {bytes room : List ℕ} {a : WriteAnswer} {x : List ℕ} (p : Rewrites bytes room a x) where
-  pub rewritten : {n k : ℕ} → a ≡ Written k → n ≡ k → RewriteLeaves bytes room n x
-  rewritten k e = record { number = e ∙ told writeNumber (p .answers) k; room-after = p .leaves }
+pub rewritten : {bytes room : List ℕ} {a : WriteAnswer} {x : List ℕ} → Rewrites bytes room a x → {n : ℕ} → n ≡ writeNumber a → RewriteLeaves bytes room n x
+rewritten p e = record { number = e ∙ ap writeNumber (p .answers); room-after = p .leaves }
 
-  pub not-rewritten : {n : ℕ} {r : Refusal} → a ≡ Unwritten r → n ≡ marked r → RewriteLeaves bytes room n x
-  not-rewritten k e = record { number = e ∙ told writeNumber (p .answers) k; room-after = p .leaves }
+-- MOVE
+pub moved : {f : Form} {bytes room : List ℕ} {a : WriteAnswer} {x : List ℕ} → Moves f bytes room a x → {n : ℕ} → n ≡ writeNumber a → MoveLeaves f bytes room n x
+moved p e = record { number = e ∙ ap writeNumber (p .answers); room-after = p .leaves }
 
 -- MARGIN
 module _ (bytes : List ℕ) (tree post : ℕ) (d : List ℤ) {t : Tree} {a : MarginAnswer} (i : t ≡ treeNamed tree) (p : a ≡ marginRead bytes t post) where

@@ -1,16 +1,23 @@
--- THE NUMBERS OF THE REFUSALS that the functions for C give are those of document 01's table, 1 to 19: `check-listed`, `plan-listed`, `rewrite-listed`,
--- `margin-listed`, `drawn-listed`. So a packed refusal is never 0 (`packed-not-zero`), and a marked one has 64 bits. Rests on the rules of every
--- entry; what is read are bytes.
-use mathlib.Core.Path.{_≡_, subst}
-use mathlib.Core.List.{List}
+-- THE NUMBERS OF THE REFUSALS that the functions for C give are those that document 01 or a request that has landed gives (`givenNumbers`): `check-listed`, `plan-listed`,
+-- `rewrite-listed`, `move-listed`, `margin-listed`, `drawn-listed`. So a packed refusal is never 0 (`packed-not-zero`), and a marked one has 64 bits (`markable`). Rests on the
+-- rules of every entry; what is read are bytes.
+use mathlib.Core.Path.{_≡_, refl, subst}
+use mathlib.Core.Bool.{Bool, true, _&&_}
+use mathlib.Core.Logic.{_⊎_, inl, inr}
+use mathlib.Core.List.{List, [], _∷_}
 use mathlib.Core.Option.{Option, none, some}
-use Prim.Native.Nat.{ℕ, _≤_}
+use Prim.Native.Nat.{ℕ, zero, suc, _<_, _≤_}
 use native.Mathlib.Omega.{arith}
+use native.Mathlib.Decide.{decLt}
+use lib.Dec.{eqb, leb}
 use lib.ListN.{length}
 use lib.Ieee.{Float}
+use borrow.Author.Tests.{eqb-true, leb-true}
+use Rattle.net.proofs.Words.{and-left, and-right, or-cases}
 use Rattle.net.specs.Net.{Net, every, mostPosts, mostSegments}
 use Rattle.net.specs.Refusals.{Lent}
 use Rattle.net.specs.Building.{buildRefusal, buildAnswer, buildOf, marginRefusal, marginAnswer, marginOf}
+use Rattle.net.specs.declared.Form.{Form}
 use Rattle.net.specs.declared.Head.{Head}
 use Rattle.net.specs.declared.Refusal.{Refusal}
 use Rattle.net.specs.declared.Tree.{Tree}
@@ -27,7 +34,8 @@ use Rattle.reading.specs.Rules.{ReadRule, head-ten-eleven, one-to-four, eight, 
 use Rattle.writing.specs.Rules.{WriteRule}
 use Rattle.writing.specs.Writing.{netWritten, writeRefusal}
 use Rattle.writing.specs.Answers.{writeAnswerBy, writeAnswerOf}
-use Rattle.writing.specs.declared.WriteAnswer.the-variants.{Refused as Unwritten}
+use Rattle.writing.specs.declared.WriteAnswer.{WriteAnswer}
+use Rattle.writing.specs.declared.WriteAnswer.the-variants.{Written, Refused as Unwritten}
 use Rattle.reading.proofs.Ruled.{read-answers}
 use Rattle.writing.proofs.RuledWriting.{write-answers}
 use Rattle.reading.specs.Answers.{checkRead}
@@ -40,18 +48,61 @@ use Rattle.drawn.specs.declared.Run.{Run}
 use Rattle.drawn.specs.declared.Answer.{Answer}
 use Rattle.drawn.specs.declared.Answer.the-variants.{Refused as Undrawn}
 use Rattle.drawn.proofs.Rules.{drawn-answers}
-use Rattle.c_numbers.specs.Named.{mostNumber, packed}
+use Rattle.moves.specs.Moves.{moveOf}
+use Rattle.moves.specs.Rules.{NetRule, MoveRule}
+use Rattle.moves.proofs.Ruled.{move-answers}
+use Rattle.moves.proofs.Outcomes.{refused-by}
+use Rattle.c_numbers.specs.Named.{mostNumber, givenNumbers, oneOf, InTable, packed}
+use Rattle.c_calls.specs.Numbers.{Markable}
 
--- one of the numbers 1 to 19
-abbrev pub InTable : ℕ → Type 0
-InTable n = (1 ≤ n) × (n ≤ mostNumber)
+-- A LIST OF NUMBERS: one of them is no less than the least and no more than the most
+abbrev within : ℕ → ℕ → List ℕ → Bool
+within low high [] = true
+within low high (x ∷ xs) = leb low x && leb x high && within low high xs
+
+one-within : (low high : ℕ) (l : List ℕ) (n : ℕ) → within low high l ≡ true → oneOf l n ≡ true → (low ≤ n) × (n ≤ high)
+one-within low high [] n w e = let z : _≡_ {A = ℕ} 0 1 = cc in absurd (omega arith)
+one-within low high (x ∷ xs) n w e = go (or-cases (eqb n x) (oneOf xs n) e) (one-within low high xs n (and-right (leb low x && leb x high) (within low high xs) w))
+  where
+    go : (eqb n x ≡ true) ⊎ (oneOf xs n ≡ true) → (oneOf xs n ≡ true → (low ≤ n) × (n ≤ high)) → (low ≤ n) × (n ≤ high)
+    go (inl f) on =
+        let y = eqb-true n x f in
+        let u = and-left (leb low x && leb x high) (within low high xs) w in
+        let a = leb-true low x (and-left (leb low x) (leb x high) u) in
+        let b = leb-true x high (and-right (leb low x) (leb x high) u) in
+        (omega arith, omega arith)
+    go (inr f) on = on f
+
+pub listed-range : (n : ℕ) → InTable n → (1 ≤ n) × (n ≤ mostNumber)
+listed-range n e = one-within 1 mostNumber givenNumbers n refl e
+
+-- the first k numbers are among them
+abbrev firstIn : ℕ → Bool
+firstIn zero = true
+firstIn (suc k) = oneOf givenNumbers (suc k) && firstIn k
+
+first-listed : (k : ℕ) → firstIn k ≡ true → (n : ℕ) → n < k → InTable (suc n)
+first-listed zero e n h = absurd (omega arith)
+first-listed (suc k) e n h = elim (decLt n k) [
+  | yes l ↦ first-listed k (and-right (oneOf givenNumbers (suc k)) (firstIn k) e) n l
+  | no l ↦ let z : n ≡ k = omega arith in rw z (and-left (oneOf givenNumbers (suc k)) (firstIn k) e)
+]
 
 pub packed-not-zero : (r : Refusal) → InTable (r .number) → packed r ≡ 0 → ⊥
-packed-not-zero r h e = omega arith
+packed-not-zero r h e = omega (arith, listed-range (r .number) h)
+
+-- a marked refusal has 64 bits
+pub markable : (a : WriteAnswer) → ((r : Refusal) → a ≡ Unwritten r → InTable (r .number)) → Markable a
+markable (Written size) h = tt
+markable (Unwritten r) h = listed-range (r .number) (h r refl) .1
 
 -- 1 TO 7
 fault-listed : {n : ℕ} → (1 ≤ n) × (n ≤ 7) → InTable n
-fault-listed h = omega arith
+fault-listed {n} h = go n h
+  where
+    go : (n : ℕ) → (1 ≤ n) × (n ≤ 7) → InTable n
+    go zero h = absurd (omega arith)
+    go (suc n) h = first-listed 7 refl n (omega arith)
 
 -- BUILDING, WRITING AND MARGIN, by their rules: a net that claims m segments, with k ratios lent
 module _ (n : Net) (m k : ℕ) where
@@ -60,25 +111,25 @@ module _ (n : Net) (m k : ℕ) where
     where
       go : {q : Refusal} → BuildRule every m n k lent (some q) → InTable (q .number)
       go (BuildRule.one-to-seven f) = fault-listed (faulty-range every m n f)
-      go (BuildRule.eight z l) = omega arith
-      go (BuildRule.nine z l i a) = omega arith
+      go (BuildRule.eight z l) = refl
+      go (BuildRule.nine z l i a) = refl
 
   write-refusal : (room : ℕ) {r : Refusal} → writeRefusal n m k room ≡ some r → InTable (r .number)
   write-refusal room e = go (rw e at (write-answers m n k room))
     where
       go : {q : Refusal} → WriteRule m n k room (some q) → InTable (q .number)
       go (WriteRule.one-to-seven f) = fault-listed (faulty-range every m n f)
-      go (WriteRule.eight z l) = omega arith
-      go (WriteRule.eighteen z i l) = omega arith
+      go (WriteRule.eight z l) = refl
+      go (WriteRule.eighteen z i l) = refl
 
   margin-refusal : (post : ℕ) {r : Refusal} → marginRefusal every n m k post ≡ some r → InTable (r .number)
   margin-refusal post e = go (rw e at (margin-answers every m n k post))
     where
       go : {q : Refusal} → MarginRule every m n k post (some q) → InTable (q .number)
       go (MarginRule.one-to-seven f) = fault-listed (faulty-range every m n f)
-      go (MarginRule.eight z l) = omega arith
-      go (MarginRule.nine z i a) = omega arith
-      go (MarginRule.nineteen z i a l) = omega arith
+      go (MarginRule.eight z l) = refl
+      go (MarginRule.nine z i a) = refl
+      go (MarginRule.nineteen z i a l) = refl
 
 -- READING, by its rules
 abbrev ListedGot : {X : Type 0} → Got X → Type 0
@@ -88,9 +139,9 @@ ListedGot (refused r) = InTable (r .number)
 module _ (bytes : List ℕ) where
   number-rule : {at : ℕ} {g : Got ℕ} → NumberRule bytes at g → ListedGot g
   number-rule (NumberRule.stands h k) = tt
-  number-rule (NumberRule.ten h k l) = omega arith
-  number-rule (NumberRule.eleven-zero h k l m e) = omega arith
-  number-rule (NumberRule.eleven-more h) = omega arith
+  number-rule (NumberRule.ten h k l) = refl
+  number-rule (NumberRule.eleven-zero h k l m e) = refl
+  number-rule (NumberRule.eleven-more h) = refl
 
   head-breaks : {r : Refusal} → HeadBreaks bytes r → InTable (r .number)
   head-breaks (at-first s) = number-rule s
@@ -100,12 +151,12 @@ module _ (bytes : List ℕ) where
   read-rule : {room ratioRoom : ℕ} {g : Got Net} → ReadRule bytes room ratioRoom g → ListedGot g
   read-rule (head-ten-eleven b) = head-breaks b
   read-rule (one-to-four h r) = fault-listed (head-range r)
-  read-rule (eight h r l) = omega arith
+  read-rule (eight h r l) = refl
   read-rule (post-ten-eleven h e s l ne b) = number-rule (b .refuses)
   read-rule (three-of-post h e s l ne w q) = fault-listed (ratio-range q)
   read-rule (segment-ten-eleven h o s l b) = number-rule (b .refuses)
   read-rule (five-to-seven h o s l w q) = fault-listed (segment-range q)
-  read-rule (twelve h o s l) = omega arith
+  read-rule (twelve h o s l) = refl
   read-rule (good h o s l) = tt
 
   read-listed : Bytes bytes → ListedGot (recordRead bytes)
@@ -145,6 +196,18 @@ module _ (bytes : List ℕ) (all : Bytes bytes) {r : Refusal} where
       go (got n next) h e = write-refusal n (length (n .segments)) mostPosts room (by (writeRefusal n (length (n .segments)) mostPosts room) (length (netWritten n)) e)
       go (refused q) h e = let z : q ≡ r = cc in rw (← z) h
 
+  pub move-listed : (f : Form) (room : ℕ) → moveOf f (recordRead bytes) room ≡ Unwritten r → InTable (r .number)
+  move-listed f room e = go (rw (refused-by f (recordRead bytes) room e) at (move-answers f bytes room all))
+    where
+      by-net : {n : Net} {q : Refusal} → NetRule f n room (some q) → InTable (q .number)
+      by-net (NetRule.thirty e) = refl
+      by-net (NetRule.twenty ne l) = refl
+      by-net (NetRule.eighteen ne a l) = refl
+
+      go : {q : Refusal} → MoveRule f bytes room (some q) → InTable (q .number)
+      go (MoveRule.not-read w) = read-rule bytes w
+      go (MoveRule.was-read w x) = by-net x
+
   pub margin-listed : (t : Tree) (post : ℕ) → marginRead bytes t post ≡ Unmeasured r → InTable (r .number)
   unfolding marginOf marginAnswer
   margin-listed t post e = go (recordRead bytes) (read-listed bytes all) e
@@ -163,19 +226,19 @@ ListedSaid (S.sixteenths k) = Unit
 ListedSaid (S.refused n p) = InTable n
 
 means-listed : {p : ℕ} {x : Float} {s : S.Says} → Means p x s → ListedSaid s
-means-listed not-a-number = omega arith
-means-listed infinite = omega arith
-means-listed (below-zero h) = omega arith
-means-listed (is-zero h) = omega arith
-means-listed (no-multiple h) = omega arith
-means-listed (too-long k h l) = omega arith
+means-listed not-a-number = refl
+means-listed infinite = refl
+means-listed (below-zero h) = refl
+means-listed (is-zero h) = refl
+means-listed (no-multiple h) = refl
+means-listed (too-long k h l) = refl
 means-listed (sound h k l) = tt
 
 answers-listed : {r : Run} {s : S.Says} → Answers r s → ListedSaid s
 answers-listed (straight m) = means-listed m
 answers-listed (first-refused m) = means-listed m
 answers-listed (second-refused m n) = means-listed n
-answers-listed (together m n l) = omega arith
+answers-listed (together m n l) = refl
 answers-listed (corner m n l) = tt
 
 pub drawn-listed : (run : Run) {r : Refusal} → drawnOf run ≡ Undrawn r → InTable (r .number)

@@ -1,13 +1,14 @@
--- TWO OUTCOMES that a contract allows are equal, for the functions for C: `plan-one`, `rewrite-one`, `margin-one`; the others' contracts are equations. And a packed refusal
+-- TWO OUTCOMES that a contract allows are equal, for the functions for C: `plan-one`, `rewrite-one`, `move-one`, `margin-one`; the others' contracts are equations. And a packed refusal
 -- says no less than the refusal: equal numbers come from equal refusals (`packed-same`, `marked-same`), and no length is a marked refusal's number.
 use mathlib.Core.Path.{_≡_, sym, _∙_}
 use mathlib.Core.List.{List}
 use Prim.Native.Nat.{ℕ, _+_, _*_, _^_, _<_}
 use native.Mathlib.Omega.{arith}
 use lib.IntN.{ℤ}
+use Rattle.net.specs.declared.Form.{Form}
 use Rattle.net.specs.declared.Refusal.{Refusal}
 use Rattle.c_numbers.specs.Named.{packed, marked}
-use Rattle.c_calls.specs.Left.{PlanLeaves, RewriteLeaves, MarginLeaves}
+use Rattle.c_calls.specs.Left.{PlanLeaves, RewriteLeaves, MoveLeaves, MarginLeaves}
 
 -- planning: the number, the three lists and the summary
 pub record SamePlan (r r₂ : ℕ) (l l₂ s s₂ w w₂ d d₂ : List ℕ) : Type 0 where
@@ -31,6 +32,10 @@ plan-one bytes l s w d x y =
 -- writing again: the number and the room
 pub rewrite-one : (bytes room : List ℕ) {r r₂ : ℕ} {x x₂ : List ℕ} → RewriteLeaves bytes room r x → RewriteLeaves bytes room r₂ x₂ → (r ≡ r₂) × (x ≡ x₂)
 rewrite-one bytes room p q = (p .number ∙ sym (q .number), p .room-after ∙ sym (q .room-after))
+
+-- a move: the number and the room
+pub move-one : (f : Form) (bytes room : List ℕ) {r r₂ : ℕ} {x x₂ : List ℕ} → MoveLeaves f bytes room r x → MoveLeaves f bytes room r₂ x₂ → (r ≡ r₂) × (x ≡ x₂)
+move-one f bytes room p q = (p .number ∙ sym (q .number), p .room-after ∙ sym (q .room-after))
 
 -- the margin: the number and the list
 pub margin-one : (bytes : List ℕ) (tree post : ℕ) (d : List ℤ) {r r₂ : ℕ} {x x₂ : List ℤ} → MarginLeaves bytes tree post d r x → MarginLeaves bytes tree post d r₂ x₂

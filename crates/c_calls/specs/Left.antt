@@ -1,11 +1,12 @@
 -- What the functions for C leave in what is lent to them. A list that is lent for some numbers takes as many of them as
 -- it has entries; its entries beyond them, and after a refusal all of them, stay as they were. Relies on `Numbers`, on
--- c_numbers' `Named` and `Lists`, and on `Asked` of `on_records`.
+-- c_numbers' `Named` and `Lists`, on `Asked` of `on_records` and on `Moves` of `moves`.
 use mathlib.Core.Path.{_≡_}
 use mathlib.Core.List.{List, [], _∷_}
 use Prim.Native.Nat.{ℕ}
 use lib.IntN.{ℤ}
 use lib.ListN.{length}
+use Rattle.net.specs.declared.Form.{Form}
 use Rattle.net.specs.declared.Tree.the-variants.{Lightest, Shortest, Between}
 use Rattle.building.specs.Answers.{lentOf}
 use Rattle.margins.specs.declared.MarginAnswer.{MarginAnswer}
@@ -13,6 +14,7 @@ use Rattle.margins.specs.declared.MarginAnswer.the-variants.{Margin, Refused as
 use Rattle.on_records.specs.Asked.{recordRead, planOf, treeList, rewriteOf, roomOf, marginRead}
 use Rattle.on_records.specs.declared.PlanAnswer.{PlanAnswer}
 use Rattle.on_records.specs.declared.PlanAnswer.the-variants.{Planned, Refused as Unplanned}
+use Rattle.moves.specs.Moves.{moveOf, roomMoved}
 use Rattle.c_numbers.specs.Named.{treeNamed}
 use Rattle.c_numbers.specs.Lists.{front, twelve}
 use Rattle.c_calls.specs.Numbers.{planNumber, writeNumber, marginNumber}
@@ -38,6 +40,11 @@ pub record PlanLeaves (bytes l s w d : List ℕ) (r : ℕ) (l′ s′ w′ d′ 
 pub record RewriteLeaves (bytes room : List ℕ) (r : ℕ) (room′ : List ℕ) : Type 0 where
   pub number : r ≡ writeNumber (rewriteOf (recordRead bytes) (length room))
   pub room-after : room′ ≡ roomOf (recordRead bytes) room
+
+-- MOVE: what a move of a record to the form that is wanted leaves, where the room held `room`
+pub record MoveLeaves (wanted : Form) (bytes room : List ℕ) (r : ℕ) (room′ : List ℕ) : Type 0 where
+  pub number : r ≡ writeNumber (moveOf wanted (recordRead bytes) (length room))
+  pub room-after : room′ ≡ roomMoved wanted (recordRead bytes) room
 
 -- MARGIN: the margin, for the front of a lent list; none after a refusal
 abbrev pub marginsOf : MarginAnswer → List ℤ

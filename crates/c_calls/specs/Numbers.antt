@@ -1,6 +1,6 @@
 -- How an answer stands in one number of 64 bits, for each case of the enums of `net`, `on_records`, `writing`,
 -- `margins` and `drawn`. Relies on c_numbers' `Named` for a refusal in one number.
-use Prim.Native.Nat.{ℕ}
+use Prim.Native.Nat.{ℕ, _≤_}
 use Rattle.net.specs.declared.Checked.{Checked}
 use Rattle.net.specs.declared.Checked.the-variants.{Sound, Refused as Unsound}
 use Rattle.drawn.specs.declared.Answer.{Answer}
@@ -11,7 +11,7 @@ use Rattle.writing.specs.declared.WriteAnswer.{WriteAnswer}
 use Rattle.writing.specs.declared.WriteAnswer.the-variants.{Written, Refused as Unwritten}
 use Rattle.on_records.specs.declared.PlanAnswer.{PlanAnswer}
 use Rattle.on_records.specs.declared.PlanAnswer.the-variants.{Planned, Refused as Unplanned}
-use Rattle.c_numbers.specs.Named.{packed, marked}
+use Rattle.c_numbers.specs.Named.{mostNumber, packed, marked}
 
 -- 0, or the refusal
 abbrev pub checkNumber : Checked → ℕ
@@ -30,6 +30,11 @@ marginNumber (Unmeasured r) = packed r
 abbrev pub writeNumber : WriteAnswer → ℕ
 writeNumber (Written size) = size
 writeNumber (Unwritten r) = marked r
+
+-- a refusal has a number that documents 01 and 02 give, so that it has 64 bits when it is marked
+abbrev pub Markable : WriteAnswer → Type 0
+Markable (Written size) = Unit {0}
+Markable (Unwritten r) = r .number ≤ mostNumber
 
 -- the length of a drawn run in sixteenths, or the refusal
 abbrev pub drawnNumber : Answer → ℕ

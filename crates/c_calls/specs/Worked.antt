@@ -7,9 +7,12 @@ use mathlib.Core.List.{List, [], _∷_}
 use Prim.Native.Nat.{ℕ}
 use lib.IntN.{pos, negsuc}
 use Rattle.net.specs.Refusals.{Lent}
+use Rattle.net.specs.declared.Form.the-variants.{First, Second}
 use Rattle.reading.specs.Worked.{bytesS, bytesA}
 use Rattle.reading.specs.Answers.{checkRead}
 use Rattle.on_records.specs.Asked.{recordRead, planOf, rewriteOf, marginRead}
+use Rattle.moves.specs.Moves.{moveOf}
+use Rattle.moves.specs.Worked.{houseA}
 use Rattle.c_numbers.specs.Named.{treeNamed, runNamed}
 use Rattle.drawn.specs.Drawn.{drawnOf}
 use Rattle.c_calls.specs.Numbers.{checkNumber, planNumber, writeNumber, marginNumber, drawnNumber}
@@ -57,6 +60,15 @@ pub record NumbersWorked : Type 0 where
   pub rewrite-short : writeNumber (rewriteOf (recordRead bytesA) 19) ≡ 9223372114164187136
   pub rewrite-own : writeNumber (rewriteOf (recordRead mixed) 27) ≡ 27
   pub rewrite-own-short : writeNumber (rewriteOf (recordRead mixed) 26) ≡ 9223372114164187136
+  -- MOVES: net A to the second form takes 27 bytes, and 18 where there is room for one less; back it takes 20; a record
+  -- of the form that is wanted is refused with 30, 2^63 + 30 × 2^32, and one in which post 1 has another ratio with 20
+  -- at place 1, 2^63 + 20 × 2^32 + 1
+  pub second-good : writeNumber (moveOf Second (recordRead bytesA) 27) ≡ 27
+  pub second-short : writeNumber (moveOf Second (recordRead bytesA) 26) ≡ 9223372114164187136
+  pub second-already : writeNumber (moveOf Second (recordRead mixed) 27) ≡ 9223372165703794688
+  pub first-good : writeNumber (moveOf First (recordRead houseA) 20) ≡ 20
+  pub first-already : writeNumber (moveOf First (recordRead bytesA) 20) ≡ 9223372165703794688
+  pub first-other : writeNumber (moveOf First (recordRead mixed) 20) ≡ 9223372122754121729
   -- MARGIN of post 3: 2 × 5 − 12 in the lightest tree, which 0 names, and 2 × 5 − 5 in the shortest, which 1 names;
   -- post 4 is refused with 19 at place 0. By its own ratio 0/1 it is 5 − 12 in the lightest tree and 0 in the tree
   -- between, which 2 names, and that of post 1, by 7/5, is 12 × 4 − 5 × 4

@@ -1,7 +1,7 @@
 // The library for C and Rust: functions on numbers and lent lists, each list a pointer and a length. Records are of
 // either form. A refusal is number × 2^32 + place; the place of 3 is 0 for the house ratio, and the post for a post's
-// own. After one nothing that is lent is changed, and no function asks anything of what is lent. Thin over `on_records`
-// and `drawn`, whose answers `c_numbers` puts into numbers.
+// own. After one nothing that is lent is changed, and no function asks anything of what is lent. Thin over
+// `on_records`, `moves` and `drawn`, whose answers `c_numbers` puts into numbers.
 use c_numbers::mark;
 use c_numbers::pack;
 use c_numbers::put_front;
@@ -15,12 +15,13 @@ use net::plain::wide;
 use on_records::PlanAnswer;
 use writing::WriteAnswer;
 ghost use mathlib.Core.Path.{_≡_};
+ghost use Rattle.net.specs.declared.Form.the-variants.{First, Second};
 ghost use Rattle.drawn.specs.Drawn.{drawnOf};
 ghost use Rattle.reading.specs.Answers.{checkRead};
 ghost use Rattle.on_records.specs.Asked.{recordRead};
 ghost use Rattle.c_numbers.specs.Named.{runNamed};
-ghost use Rattle.c_calls.specs.Numbers.{checkNumber, drawnNumber};
-ghost use Rattle.c_calls.specs.Left.{PlanLeaves, RewriteLeaves, MarginLeaves};
+ghost use Rattle.c_calls.specs.Numbers.{checkNumber, writeNumber, Markable, drawnNumber};
+ghost use Rattle.c_calls.specs.Left.{PlanLeaves, RewriteLeaves, MoveLeaves, MarginLeaves};
 
 // CHECK, for every input: reads the record, and no more. 0, or the refusal.
 #[no_mangle]
@@ -66,17 +67,44 @@ pub extern "C" fn drover_plan(
     }
 }
 
+// What writing answers, in one number: the length, or 2^63 + the refusal.
+fn write_number(answer: WriteAnswer) -> u64
+    requires { ⌜ Markable answer ⌝ }
+    ensures { λ r. ⌜ r ≡ writeNumber answer ⌝ }
+{
+    match answer {
+        WriteAnswer::Written(length) => wide(length),
+        WriteAnswer::Refused(r) => mark(r),
+    }
+}
+
 // REWRITE, for every input: reads the record and writes it to the front of the room. The length written, or 2^63 + the
 // refusal.
 #[no_mangle]
 pub extern "C" fn drover_rewrite(bytes: &[u8], room: &mut [u8]) -> u64
     ensures rewritten { λ r. ⌜ RewriteLeaves (now (bytes .entry)) (now (room .entry)) r (now (room .exit)) ⌝ }
 {
-    let answer = on_records::rewrite(bytes, room);
-    match answer {
-        WriteAnswer::Written(length) => wide(length),
-        WriteAnswer::Refused(r) => mark(r),
-    }
+    write_number(on_records::rewrite(bytes, room))
+}
+
+// TO THE SECOND FORM, for every input: reads a record of the first form and writes it to the front of the room with the
+// house ratio for each post but the source. The length written, or 2^63 + the refusal, 30 for a record of the second
+// form.
+#[no_mangle]
+pub extern "C" fn drover_to_second(bytes: &[u8], room: &mut [u8]) -> u64
+    ensures moved { λ r. ⌜ MoveLeaves Second (now (bytes .entry)) (now (room .entry)) r (now (room .exit)) ⌝ }
+{
+    write_number(moves::to_second(bytes, room))
+}
+
+// TO THE FIRST FORM, for every input: reads a record of the second form, in which every post but the source has the
+// house p and q, and writes it to the front of the room without them. The length written, or 2^63 + the refusal, 30 for
+// a record of the first form, 20 for a post with another ratio.
+#[no_mangle]
+pub extern "C" fn drover_to_first(bytes: &[u8], room: &mut [u8]) -> u64
+    ensures moved { λ r. ⌜ MoveLeaves First (now (bytes .entry)) (now (room .entry)) r (now (room .exit)) ⌝ }
+{
+    write_number(moves::to_first(bytes, room))
 }
 
 // MARGIN, for every input: reads the record and puts the margin of a post, in the tree that the number names and by the

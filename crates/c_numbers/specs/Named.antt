@@ -1,6 +1,9 @@
 -- A refusal in one number of 64 bits, which is number × 2^32 + place; where the answer may be a length, 2^63 is added
--- to it. And how a tree and a drawn run are named by numbers. Relies on the enums and structs of `net` and `drawn`.
-use mathlib.Core.Bool.{cond}
+-- to it. Which numbers refusals have. And how a tree and a drawn run are named by numbers. Relies on the enums and
+-- structs of `net` and `drawn`.
+use mathlib.Core.Path.{_≡_}
+use mathlib.Core.Bool.{Bool, true, false, _||_, cond}
+use mathlib.Core.List.{List, [], _∷_}
 use Prim.Native.Nat.{ℕ, _+_, _*_, _^_}
 use lib.Dec.{eqb}
 use lib.Ieee.{binary64, ofBits}
@@ -10,9 +13,22 @@ use Rattle.net.specs.declared.Tree.the-variants.{Lightest, Shortest, Between}
 use Rattle.drawn.specs.declared.Run.{Run}
 use Rattle.drawn.specs.declared.Run.the-variants.{Straight, Corner}
 
--- the last number of document 01's table of refusals
+-- the last number that documents 01 and 02 give to a refusal
 abbrev pub mostNumber : ℕ
-mostNumber = 19
+mostNumber = 32
+
+-- the numbers that document 01 or a request that has landed gives
+abbrev pub givenNumbers : List ℕ
+givenNumbers = 1 ∷ 2 ∷ 3 ∷ 4 ∷ 5 ∷ 6 ∷ 7 ∷ 8 ∷ 9 ∷ 10 ∷ 11 ∷ 12 ∷ 13 ∷ 14 ∷ 15 ∷ 16 ∷ 17 ∷ 18 ∷ 19 ∷ 20 ∷ 30 ∷ []
+
+-- n is one of a list
+abbrev pub oneOf : List ℕ → ℕ → Bool
+oneOf [] n = false
+oneOf (x ∷ xs) n = eqb n x || oneOf xs n
+
+-- n is one of these numbers
+abbrev pub InTable : ℕ → Type 0
+InTable n = oneOf givenNumbers n ≡ true
 
 -- "a refusal with its number and its place"
 abbrev pub packed : Refusal → ℕ

@@ -11,6 +11,7 @@ use Rattle.net.specs.Net.{Ratio, Net, every, mostPosts, ratiosOf, segmentsOf}
 use Rattle.net.specs.Refusals.{saysOf as checkSays}
 use Rattle.net.specs.Building.{buildRefusal, buildAnswer, buildOf, listAfter, afterBuild, marginRefusal, marginAnswer, marginOf}
 use Rattle.net.specs.Building as B
+use Rattle.net.specs.declared.Form.{Form}
 use Rattle.net.specs.declared.Segment.{Segment}
 use Rattle.net.specs.declared.Refusal.{Refusal}
 use Rattle.net.specs.declared.Tree.{Tree}
@@ -26,7 +27,7 @@ use Rattle.building.proofs.Meaning.{refused-exactly}
 use Rattle.building.proofs.Unique.{answer-says}
 use Rattle.margins.proofs.Unique.{margin-answer-says}
 use Rattle.numbers.specs.Numbers.{Got, got, refused}
-use Rattle.reading.specs.Reading.{netRead}
+use Rattle.reading.specs.Reading.{longestRecord, netRead}
 use Rattle.writing.specs.Writing.{netWritten, writeRefusal, afterWriting, roomAfter}
 use Rattle.reading.specs.Answers.{readAnswer, saysBy, checkRead, ratiosRead, ReadsLists}
 use Rattle.reading.specs.Answers.{listRead as numbersRead}
@@ -41,11 +42,18 @@ use Rattle.on_records.specs.Asked.{recordRead, plannedWith, planOf, treeList, P
 use Rattle.on_records.specs.Says.{saysPlanned}
 use Rattle.on_records.specs.declared.PlanAnswer.{PlanAnswer}
 use Rattle.on_records.specs.declared.PlanAnswer.the-variants.{Planned, Refused as Unbuilt}
+use Rattle.moves.specs.Moves.{inForm, moveRefusal, moveOf, roomMoved, Moves}
+use Rattle.moves.proofs.Ruled.{move-answers, move-only}
+use Rattle.lines.specs.Text.{refusedLine}
+use Rattle.moving.specs.Handing.{for-error, handingBy, handingOf, handing, handedAs, Hands}
+use Rattle.moving.specs.declared.Handed.{Handed}
+use Rattle.moving.specs.declared.Handed.the-variants.{Refused as Unhanded}
+use Rattle.moving.proofs.Given.{hands-same}
 use Rattle.c_numbers.specs.Named.{packed, marked, treeNamed}
 use Rattle.c_numbers.specs.Lists.{front}
 use Rattle.c_numbers.proofs.Fronts.{front-none}
 use Rattle.c_calls.specs.Numbers.{checkNumber, planNumber, writeNumber, marginNumber, drawnNumber}
-use Rattle.c_calls.specs.Left.{summaryOf, marginsOf, PlanLeaves, RewriteLeaves, MarginLeaves}
+use Rattle.c_calls.specs.Left.{summaryOf, marginsOf, PlanLeaves, RewriteLeaves, MoveLeaves, MarginLeaves}
 use Rattle.c_calls.proofs.Unique.{packed-same, marked-same, no-length-marked}
 use Rattle.drawn.specs.declared.Run.{Run}
 use Rattle.drawn.specs.Drawn.{drawnOf}
@@ -54,7 +62,8 @@ use Rattle.drawn.specs.Rules.{Answers}
 use Rattle.drawn.specs.declared.Answer.{Answer as Drawn}
 use Rattle.drawn.specs.declared.Answer.the-variants.{Length, Refused as Undrawn}
 use Rattle.drawn.proofs.Rules.{drawn-only, outcome-answers, outcome-only}
-use Rattle.promises.specs.Demand1.{Refuses, RefusesInNumber, BuildRefuses, MarginRefuses, ReadRefuses, WriteRefuses, CheckRefuses, OnRecord, by-reading, by-net, Unplanned, Unwritten, Unmeasured, Demand1}
+use Rattle.promises.specs.Demand1.{Refuses, RefusesInNumber, BuildRefuses, MarginRefuses, ReadRefuses, WriteRefuses, CheckRefuses, HandRefuses, OnRecord, by-reading, by-net, Unplanned, Unwritten, Unmoved, Unmeasured, Demand1}
+use Rattle.promises.proofs.Moves.{back-exactly}
 
 module _ (n : Net) (m k : ℕ) (l s w : List ℕ) where
   kept : (r : Refusal) → buildRefusal every n m k (lentOf l s w) ≡ some r → (t : Tree) (before now : List ℕ) → now ≡ afterBuild every n m k (lentOf l s w) t before → now ≡ before
@@ -209,6 +218,41 @@ module _ (bytes room : List ℕ) where
   pub rewrite-refuses : {a : WriteAnswer} {x : List ℕ} → Rewrites bytes room a x → Refuses (Unwritten bytes (length room)) (λ r. saysWritten a ≡ refusal-of r) (x ≡ room)
   rewrite-refuses k = record { refuses = refused-rewrite k; only-then = λ r e. rewrite-held (recordRead bytes) refl (ap saysWritten (sym (k .answers)) ∙ e) }
 
+-- a move of a record
+module _ (f : Form) (bytes room : List ℕ) where
+  refused-move : {a : WriteAnswer} {x : List ℕ} → Moves f bytes room a x → (r : Refusal) → OnRecord bytes (λ n. moveRefusal f n (length room)) r → (saysWritten a ≡ refusal-of r) × (x ≡ room)
+  refused-move k r (by-reading e) = (ap saysWritten (k .answers ∙ ap (λ g. moveOf f g (length room)) e), k .leaves ∙ ap (λ g. roomMoved f g room) e)
+  refused-move k r (by-net n next i e) = (
+    ap saysWritten (k .answers ∙ ap (λ g. moveOf f g (length room)) i ∙ ap (λ o. writeAnswerBy o (length (netWritten (inForm f n)))) e),
+    k .leaves ∙ ap (λ g. roomMoved f g room) i ∙ ap (λ o. afterWriting o (inForm f n) room) e,
+  )
+
+  move-held : {r : Refusal} (g : Got Net) → recordRead bytes ≡ g → saysWritten (moveOf f g (length room)) ≡ refusal-of r → OnRecord bytes (λ n. moveRefusal f n (length room)) r
+  move-held (got n next) i e = by-net n next i (write-held (inForm f n) 0 0 room (moveRefusal f n (length room)) e)
+  move-held {r} (refused x) i e = by-reading (i ∙ (let k : _≡_ {A = Got Net} (refused x) (refused r) = cc in k))
+
+  pub move-refuses : {a : WriteAnswer} {x : List ℕ} → Moves f bytes room a x → Refuses (Unmoved f bytes (length room)) (λ r. saysWritten a ≡ refusal-of r) (x ≡ room)
+  move-refuses k = record { refuses = refused-move k; only-then = λ r e. move-held (recordRead bytes) refl (ap saysWritten (sym (k .answers)) ∙ e) }
+
+-- what is handed on for it: the line of a refusal exactly where the rules refuse
+module _ (f : Form) (bytes out : List ℕ) where
+  refused-handing : (r : Refusal) → Unmoved f bytes longestRecord r → handing f bytes ≡ for-error (refusedLine (r .number) (r .place))
+  unfolding handing
+  refused-handing r (by-reading e) = ap (handingOf f) e
+  refused-handing r (by-net n next i e) = ap (handingOf f) i ∙ ap (λ o. handingBy o (netWritten (inForm f n))) e
+
+  hand-held : {size : ℕ} (g : Got Net) → recordRead bytes ≡ g → handedAs (handingOf f g) ≡ Unhanded size → (r : Refusal) × Unmoved f bytes longestRecord r
+  hand-held (refused x) i e = (x, by-reading i)
+  hand-held {size} (got n next) i e = by (moveRefusal f n longestRecord) refl e
+    where
+      by : (o : Option Refusal) → moveRefusal f n longestRecord ≡ o → handedAs (handingBy o (netWritten (inForm f n))) ≡ Unhanded size → (r : Refusal) × Unmoved f bytes longestRecord r
+      by none k e = absurd (let z : _≡_ {A = ℕ} 0 1 = cc in omega arith)
+      by (some r) k e = (r, by-net n next i k)
+
+  pub hand-refuses : {a : Handed} {x : List ℕ} → Hands (handing f bytes) out a x → HandRefuses f bytes out a x
+  unfolding handing
+  hand-refuses p = record { refuses = λ r u. hands-same p (refused-handing r u); only-then = λ size e. hand-held (recordRead bytes) refl (sym (p .answers) ∙ e) }
+
 module _ (bytes : List ℕ) (t : Tree) (post : ℕ) where
   refused-record-margin : {a : MarginAnswer} → a ≡ marginRead bytes t post → (r : Refusal) → OnRecord bytes (λ n. marginRefusal every n (length (n .segments)) mostPosts post) r
       → marginSaysOf a ≡ B.MarginAnswer.refused r
@@ -295,6 +339,17 @@ c-rewrite-refuses bytes room {x = x} k =
           );
     }
 
+pub c-move-refuses : (f : Form) (bytes room : List ℕ) {a : ℕ} {x : List ℕ} → MoveLeaves f bytes room a x
+    → RefusesInNumber (Unmoved f bytes (length room)) (λ r. a ≡ marked r) (x ≡ room) ((n : Net) (next : ℕ) → recordRead bytes ≡ got n next → a ≡ length (netWritten (inForm f n)))
+c-move-refuses f bytes room {x = x} k =
+    let p : Moves f bytes room (moveOf f (recordRead bytes) (length room)) x = record { answers = refl; leaves = k .room-after } in
+    record {
+      refuses = λ r u. (let z = refused-move f bytes room p r u in (k .number ∙ write-number (moveOf f (recordRead bytes) (length room)) r (z .0), z .1));
+      otherwise = λ h n next i. (
+          k .number ∙ ap (λ g. writeNumber (moveOf f g (length room))) i ∙ write-size (moveRefusal f n (length room)) (length (netWritten (inForm f n))) (λ r e. h r (by-net n next i e))
+          );
+    }
+
 pub c-margin-refuses : (bytes : List ℕ) (tree post : ℕ) (d : List ℤ) {a : ℕ} {d′ : List ℤ} → MarginLeaves bytes tree post d a d′
     → RefusesInNumber (Unmeasured bytes post) (λ r. a ≡ packed r) (d′ ≡ d) (a ≡ 0)
 c-margin-refuses bytes tree post d k =
@@ -325,6 +380,7 @@ demand-1 =
       margin-rules = λ n m k post. record { by-the-rules = margin-answers every m n k post; no-other = λ r. margin-only every m n k post };
       read-rules = λ bytes room ratioRoom. record { by-the-rules = λ all. read-answers bytes all room ratioRoom; no-other = λ g. read-only bytes };
       write-rules = λ n m k room. record { by-the-rules = write-answers m n k room; no-other = λ r. write-only m n k room };
+      move-rules = λ f bytes room. record { by-the-rules = move-answers f bytes room; no-other = λ r. move-only f bytes room };
       build = λ w κs x g r e. fact-mono (w .𝓤) _ _ (build-refuses _ _ _ _ _ _);
       margin = λ w κs x g r e. fact-mono (w .𝓤) _ _ (margin-refuses _ _ _ _ _);
       read = λ w κs x g r e. fact-mono (w .𝓤) _ _ (read-refuses _ _ _ _);
@@ -338,9 +394,15 @@ demand-1 =
       rewrite = λ w κs x g r e. fact-mono (w .𝓤) _ _ (rewrite-refuses _ _);
       record-margin = λ w κs x g r e. fact-mono (w .𝓤) _ _ (record-margin-refuses _ _ _);
       record-check = λ w κs x g r e. fact-mono (w .𝓤) _ _ (check-refuses _);
+      to-second = λ w κs x g r e. fact-mono (w .𝓤) _ _ (move-refuses _ _ _);
+      to-first = λ w κs x g r e. fact-mono (w .𝓤) _ _ (move-refuses _ _ _);
+      back-exactly = λ w κs x g r e. fact-mono (w .𝓤) _ _ (back-exactly _ _);
+      hand-on = λ w κs x g r e. fact-mono (w .𝓤) _ _ (λ p. hand-refuses _ _ _ (p .hands));
       c-check = λ w κs x g r e. fact-mono (w .𝓤) _ _ (c-check-refuses _);
       c-plan = λ w κs x g r e. fact-mono (w .𝓤) _ _ (c-plan-refuses _ _ _ _ _);
       c-rewrite = λ w κs x g r e. fact-mono (w .𝓤) _ _ (c-rewrite-refuses _ _);
+      c-to-second = λ w κs x g r e. fact-mono (w .𝓤) _ _ (c-move-refuses _ _ _);
+      c-to-first = λ w κs x g r e. fact-mono (w .𝓤) _ _ (c-move-refuses _ _ _);
       c-margin = λ w κs x g r e. fact-mono (w .𝓤) _ _ (c-margin-refuses _ _ _ _);
       c-drawn = λ w κs x g r e. fact-mono (w .𝓤) _ _ (c-drawn-refuses _);
       packed-apart = packed-same;

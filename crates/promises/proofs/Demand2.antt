@@ -41,9 +41,13 @@ use Rattle.drawn.proofs.Rules.{same-says}
 use Rattle.drawn.proofs.Lengths.{straight-length, length-straight, corner-length, length-corner}
 use Rattle.printing.proofs.Printing.{answer-lines}
 use Rattle.printing.proofs.Whole.{whole-text}
-use Rattle.promises.specs.Demand2.{ProgramAsStated, ByTheRules, TreesAsStated, Measures, Holds, BuiltAsStated, PlannedAsStated, MarginAsStated, DrawnAsStated, Demand2}
+use Rattle.moving.proofs.Given.{answer-handing}
+use Rattle.moving.proofs.Whole.{whole-hands}
+use Rattle.moving.proofs.Room.{room-enough, no-eighteen}
+use Rattle.promises.specs.Demand2.{ProgramAsStated, MoveProgramAsStated, ByTheRules, TreesAsStated, Measures, Holds, BuiltAsStated, PlannedAsStated, MarginAsStated, DrawnAsStated, Demand2}
 use Rattle.promises.proofs.Taken.{taken-sound, taken-joined, answers, after, planned-net}
 use Rattle.promises.proofs.Records.{records-both-ways}
+use Rattle.promises.proofs.Moves.{moved-as-stated, moves-both-ways}
 use Rattle.promises.proofs.Ratios.{ratios-as-stated, scaled-as-stated, own-scaled-as-stated}
 
 -- THE TREES
@@ -175,13 +179,24 @@ drawn-as-stated =
       corner = λ x y {a} e k. (λ f. corner-length x y k (sym e ∙ same-says a (Length k) f), λ f. ap drawnSays (e ∙ length-corner x y k f));
     }
 
--- THE PROGRAM
+-- THE PROGRAMS
 pub program-as-stated : ProgramAsStated
 program-as-stated =
     record {
       printed-is = λ w κs x g r e. fact-mono (w .𝓤) _ _ (λ p el es ew. sym (answer-lines _ _ _ el es ew _ r p));
       whole-input = λ w κs x g r e. fact-mono (w .𝓤) _ _ (λ p bytes all k. whole-text bytes all p k);
       reads-enough = λ w κs x g r e. fact-mono (w .𝓤) _ _ (λ p. p .enough);
+    }
+
+pub move-program-as-stated : MoveProgramAsStated
+move-program-as-stated =
+    record {
+      to-second = λ w κs x g r e. fact-mono (w .𝓤) _ _ (λ p long. answer-handing _ _ _ long r p);
+      to-first = λ w κs x g r e. fact-mono (w .𝓤) _ _ (λ p long. answer-handing _ _ _ long r p);
+      whole-input = λ w κs x g r e. fact-mono (w .𝓤) _ _ (λ p bytes all k. whole-hands bytes all p k);
+      reads-enough = λ w κs x g r e. fact-mono (w .𝓤) _ _ (λ p. p .enough);
+      room-enough = λ f bytes _ _ e. room-enough f bytes e;
+      no-eighteen = λ f bytes _ _ e. no-eighteen f bytes e;
     }
 
 -- EVERY ENTRY
@@ -194,6 +209,9 @@ demand-2 =
       margin-lists = λ w κs x g r e. fact-mono (w .𝓤) _ _ (λ p _ f. margin-as-stated _ _ _ (le-refl _) _ _ p f);
       plan = λ w κs x g r e. fact-mono (w .𝓤) _ _ (λ p _ f. planned-as-stated _ _ _ _ p f);
       record-margin = λ w κs x g r e. fact-mono (w .𝓤) _ _ (λ p _ f _ _ i. record-margin-as-stated _ _ _ p f i);
+      to-second = λ w κs x g r e. fact-mono (w .𝓤) _ _ (λ p _ f. moved-as-stated _ _ _ p f);
+      to-first = λ w κs x g r e. fact-mono (w .𝓤) _ _ (λ p _ f. moved-as-stated _ _ _ p f);
+      moves = moves-both-ways;
       ratios = ratios-as-stated;
       ratio = scaled-as-stated;
       own-ratio = own-scaled-as-stated;
@@ -201,4 +219,5 @@ demand-2 =
       longest = longest-record;
       drawn = drawn-as-stated;
       program = program-as-stated;
+      move-program = move-program-as-stated;
     }

@@ -1,5 +1,6 @@
 -- That it holds: a theorem for each file of specs/.
 pub mod Taken
+pub mod Moves
 pub mod Demand1
 pub mod Records
 pub mod Ratios

@@ -15,12 +15,17 @@ tied =
       rewrite = record { asks-nothing = λ w κs x g. id⊢ (w .𝓤) _; says = λ w κs x g r e. id⊢ (w .𝓤) _ };
       record-margin = record { asks-nothing = λ w κs x g. id⊢ (w .𝓤) _; says = λ w κs x g r e. id⊢ (w .𝓤) _ };
       record-check = record { asks-nothing = λ w κs x g. id⊢ (w .𝓤) _; says = λ w κs x g r e. id⊢ (w .𝓤) _ };
+      to-second = record { asks-nothing = λ w κs x g. id⊢ (w .𝓤) _; says = λ w κs x g r e. id⊢ (w .𝓤) _ };
+      to-first = record { asks-nothing = λ w κs x g. id⊢ (w .𝓤) _; says = λ w κs x g r e. id⊢ (w .𝓤) _ };
       c-check = record { asks-nothing = λ w κs x g. id⊢ (w .𝓤) _; says = λ w κs x g r e. id⊢ (w .𝓤) _ };
       c-plan = record { asks-nothing = λ w κs x g. id⊢ (w .𝓤) _; says = λ w κs x g r e. id⊢ (w .𝓤) _ };
       c-rewrite = record { asks-nothing = λ w κs x g. id⊢ (w .𝓤) _; says = λ w κs x g r e. id⊢ (w .𝓤) _ };
+      c-to-second = record { asks-nothing = λ w κs x g. id⊢ (w .𝓤) _; says = λ w κs x g r e. id⊢ (w .𝓤) _ };
+      c-to-first = record { asks-nothing = λ w κs x g. id⊢ (w .𝓤) _; says = λ w κs x g r e. id⊢ (w .𝓤) _ };
       c-margin = record { asks-nothing = λ w κs x g. id⊢ (w .𝓤) _; says = λ w κs x g r e. id⊢ (w .𝓤) _ };
       c-drawn = record { asks-nothing = λ w κs x g. id⊢ (w .𝓤) _; says = λ w κs x g r e. id⊢ (w .𝓤) _ };
       print = record { asks-nothing = λ w κs x g. id⊢ (w .𝓤) _; says = λ w κs x g r e. id⊢ (w .𝓤) _ };
+      hand-on = record { asks-nothing = λ w κs x g. id⊢ (w .𝓤) _; says = λ w κs x g r e. id⊢ (w .𝓤) _ };
       build-lists = record { asks-nothing = λ w κs x g. id⊢ (w .𝓤) _; says = λ w κs x g r e. id⊢ (w .𝓤) _ };
       margin-lists = record { asks-nothing = λ w κs x g. id⊢ (w .𝓤) _; says = λ w κs x g r e. id⊢ (w .𝓤) _ };
       write-lists = record { asks-nothing = λ w κs x g. id⊢ (w .𝓤) _; says = λ w κs x g r e. id⊢ (w .𝓤) _ };

@@ -7,6 +7,8 @@ use Rattle.building.proofs.Unique.{build-one}
 use Rattle.reading.proofs.Outcomes.{read-unique}
 use Rattle.writing.proofs.Outcomes.{write-unique}
 use Rattle.on_records.proofs.Unique as on-records
+use Rattle.moves.proofs.Outcomes.{move-one}
+use Rattle.moving.proofs.Given.{hands-one}
 use Rattle.c_calls.proofs.Unique as c-calls
 use Rattle.promises.specs.Unique.{Unique}
 
@@ -33,12 +35,17 @@ unique =
       rewrite = λ w κs x g r q e o. both w (λ p k. let z = on-records.rewrite-one _ _ p k in (z .0, λ i. (tt, (z .1 i, tt))));
       record-margin = λ w κs x g r q e o. both w same;
       record-check = λ w κs x g r q e o. both w same;
+      to-second = λ w κs x g r q e o. both w (λ p k. let z = move-one _ _ _ p k in (z .0, λ i. (tt, (z .1 i, tt))));
+      to-first = λ w κs x g r q e o. both w (λ p k. let z = move-one _ _ _ p k in (z .0, λ i. (tt, (z .1 i, tt))));
       c-check = λ w κs x g r q e o. both w same;
       c-plan = λ w κs x g r q e o. both w (λ p k. let z = c-calls.plan-one _ _ _ _ _ p k in (z .numbers, λ i. (tt, (z .lightest i, (z .shortest i, (z .between i, (z .summary i, tt)))))));
       c-rewrite = λ w κs x g r q e o. both w (λ p k. let z = c-calls.rewrite-one _ _ p k in (z .0, λ i. (tt, (z .1 i, tt))));
+      c-to-second = λ w κs x g r q e o. both w (λ p k. let z = c-calls.move-one _ _ _ p k in (z .0, λ i. (tt, (z .1 i, tt))));
+      c-to-first = λ w κs x g r q e o. both w (λ p k. let z = c-calls.move-one _ _ _ p k in (z .0, λ i. (tt, (z .1 i, tt))));
       c-margin = λ w κs x g r q e o. both w (λ p k. let z = c-calls.margin-one _ _ _ _ p k in (z .0, λ i. (tt, (tt, (tt, (z .1 i, tt))))));
       c-drawn = λ w κs x g r q e o. both w same;
       print = λ w κs x g r q e o. both w (λ p k. (p .puts .behind ∙ sym (k .puts .behind), λ i. (tt, (tt, ((p .puts .holds ∙ sym (k .puts .holds)) i, tt)))));
+      hand-on = λ w κs x g r q e o. both w (λ p k. let z = hands-one (p .hands) (k .hands) in (z .0, λ i. (tt, (tt, (tt, (z .1 i, tt))))));
       build-lists = λ w κs x g r q e o. both w (λ p k. let z = build-one _ _ _ _ _ _ p k in (z .answers, λ i. (tt, (tt, (tt, (tt, (tt, (tt, (z .lightest i, (z .shortest i, (z .between i, tt)))))))))));
       margin-lists = λ w κs x g r q e o. both w same;
       write-lists = λ w κs x g r q e o. both w (λ p k. let z = write-unique _ _ _ _ _ _ _ _ p k in (z .0, λ i. (tt, (tt, (tt, (tt, (tt, (tt, (z .1 i, tt)))))))));

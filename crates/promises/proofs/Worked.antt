@@ -2,6 +2,7 @@
 use Rattle.net.proofs.Worked.{nets-worked}
 use Rattle.reading.proofs.Worked.{records-worked}
 use Rattle.drawn.proofs.Worked.{drawn-worked}
+use Rattle.moves.proofs.Worked.{moves-worked}
 use Rattle.printing.proofs.Worked.{program-worked}
 use Rattle.c_calls.proofs.Worked.{numbers-worked}
 use Rattle.promises.specs.Worked.{Worked}
@@ -11,6 +12,7 @@ worked =
     record {
       nets = nets-worked;
       records = records-worked;
+      moves = moves-worked;
       drawn = drawn-worked;
       program = program-worked;
       for-c = numbers-worked;

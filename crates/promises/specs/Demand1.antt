@@ -6,15 +6,15 @@
 -- to it: where the rules refuse, every outcome is that refusal, and what was lent is as it was (`refuses`); an outcome
 -- is a refusal only where they refuse (`only-then`); for C it is otherwise a result (`otherwise`). Of a record both are
 -- said of reading and then of the net that was read (`OnRecord`). The rules stand in net/specs/Rules,
--- numbers/specs/Rules, writing/specs/Rules, reading/specs/Rules and drawn/specs/Rules. What an answer says, its number
--- and values, is `saysOf`, `marginSaysOf`, `saysBy`, `saysWritten`, `saysPlanned`, `checkSays` and, for C, `packed` and
--- `marked`.
+-- numbers/specs/Rules, writing/specs/Rules, reading/specs/Rules, moves/specs/Rules and drawn/specs/Rules. What an
+-- answer says, its number and values, is `saysOf`, `marginSaysOf`, `saysBy`, `saysWritten`, `saysPlanned`, `checkSays`
+-- and, for C, `packed` and `marked`.
 use mathlib.Core.Path.{_≡_}
 use mathlib.Core.Logic.{_↔_}
 use mathlib.Core.List.{List}
 use mathlib.Core.Option.{Option, some}
 use Prim.Native.Nat.{ℕ, _≤_, _<_, _^_}
-use lib.ListN.{length}
+use lib.ListN.{length, take}
 use denote.Ref.{now}
 use Rattle.net.specs.Net.{Ratio, Net, every, ratiosOf, segmentsOf, mostPosts, mostSegments}
 use Rattle.net.specs.Ready.{netBy, ratioCountBy, countBy}
@@ -22,6 +22,8 @@ use Rattle.net.specs.Refusals.{Lent, refusal, saysOf as checkSays}
 use Rattle.net.specs.Rules.{NetSound, LongEnough, Joined, LowestApart, BuildRule, MarginRule}
 use Rattle.net.specs.Building.{refused, buildRefusal, marginRefusal}
 use Rattle.net.specs.Building as B
+use Rattle.net.specs.declared.Form.{Form}
+use Rattle.net.specs.declared.Form.the-variants.{First, Second}
 use Rattle.net.specs.declared.Segment.{Segment}
 use Rattle.net.specs.declared.Refusal.{Refusal}
 use Rattle.net.specs.declared.Checked.{Checked}
@@ -31,7 +33,7 @@ use Rattle.margins.specs.Answers.{marginSaysOf}
 use Rattle.building.specs.declared.Answer.{Answer}
 use Rattle.margins.specs.declared.MarginAnswer.{MarginAnswer}
 use Rattle.numbers.specs.Numbers.{Bytes, Got, got, refused as unread}
-use Rattle.reading.specs.Reading.{netRead}
+use Rattle.reading.specs.Reading.{longestRecord, netRead}
 use Rattle.writing.specs.Writing.{netWritten, writeRefusal}
 use Rattle.reading.specs.Rules.{ReadRule}
 use Rattle.writing.specs.Rules.{WriteRule}
@@ -41,10 +43,17 @@ use Rattle.reading.specs.declared.ReadAnswer.{ReadAnswer}
 use Rattle.writing.specs.declared.WriteAnswer.{WriteAnswer}
 use Rattle.on_records.specs.Asked.{recordRead}
 use Rattle.on_records.specs.Says.{saysPlanned}
+use Rattle.moves.specs.Moves.{inSecond, inFirst, moveRefusal, unmovedOf}
+use Rattle.moves.specs.Rules.{MoveRule}
+use Rattle.lines.specs.Text.{refusedLine}
+use Rattle.moving.specs.Handing.{wantedBy, for-error, Hands}
+use Rattle.moving.specs.declared.Handed.{Handed}
+use Rattle.moving.specs.declared.Handed.the-variants.{Refused as Unhanded}
 use Rattle.c_numbers.specs.Named.{packed, marked, runNamed}
 use Rattle.drawn.specs.Says.{Says as Said, sixteenths, refused as undrawn, saysOf as drawnSays}
 use Rattle.drawn.specs.Rules.{Answers}
 use Rattle.promises.specs.Contracts.{Says}
+use Rattle.promises.specs.Moves.{BackExactly}
 use Rattle.promises.specs.Entries as entry
 
 -- THE RULES, of building a net n that claims m segments and for which k ratios are lent, with three lists of these
@@ -74,6 +83,11 @@ pub record ReadRules (bytes : List ℕ) (room ratioRoom : ℕ) : Type 0 where
 pub record WriteRules (n : Net) (m k room : ℕ) : Type 0 where
   pub by-the-rules : WriteRule m n k room (writeRefusal n m k room)
   pub no-other : (r : Option Refusal) → WriteRule m n k room r → r ≡ writeRefusal n m k room
+
+-- of moving bytes, each below 256 (`Bytes`), to the form that is wanted, into a room of so many bytes
+pub record MoveRules (wanted : Form) (bytes : List ℕ) (room : ℕ) : Type 0 where
+  pub by-the-rules : Bytes bytes → MoveRule wanted bytes room (unmovedOf wanted (recordRead bytes) room)
+  pub no-other : (r : Option Refusal) → MoveRule wanted bytes room r → r ≡ unmovedOf wanted (recordRead bytes) room
 
 -- OF AN OUTCOME: `rules r` is that the rules refuse with r, `says r` that the answer is this refusal, and `kept` that
 -- everything that was lent is as it was
@@ -115,7 +129,8 @@ pub data OnRecord (bytes : List ℕ) (refusing : Net → Option Refusal) (r : Re
   by-reading : recordRead bytes ≡ unread r → OnRecord bytes refusing r
   by-net : (n : Net) (next : ℕ) → recordRead bytes ≡ got n next → refusing n ≡ some r → OnRecord bytes refusing r
 
--- planning it, with three lists of these lengths; writing it again, into a room of so many bytes; the margin of a post.
+-- planning it, with three lists of these lengths; writing it again, and moving it to the form that is wanted, into a
+-- room of so many bytes; the margin of a post.
 -- There are places for the ratios of as many posts as a net may have
 abbrev pub Unplanned : List ℕ → Lent → Refusal → Type 0
 Unplanned bytes lent = OnRecord bytes (λ n. buildRefusal every n (length (n .segments)) mostPosts lent)
@@ -123,8 +138,18 @@ Unplanned bytes lent = OnRecord bytes (λ n. buildRefusal every n (length (n .se
 abbrev pub Unwritten : List ℕ → ℕ → Refusal → Type 0
 Unwritten bytes room = OnRecord bytes (λ n. writeRefusal n (length (n .segments)) mostPosts room)
 
+abbrev pub Unmoved : Form → List ℕ → ℕ → Refusal → Type 0
+Unmoved wanted bytes room = OnRecord bytes (λ n. moveRefusal wanted n room)
+
 abbrev pub Unmeasured : List ℕ → ℕ → Refusal → Type 0
 Unmeasured bytes post = OnRecord bytes (λ n. marginRefusal every n (length (n .segments)) mostPosts post)
+
+-- HANDING ON what was moved, with room for the longest record: where the rules refuse, the line of that refusal stands
+-- at the front of the room, and behind it the room is as it was; a line is handed on only where they refuse
+pub record HandRefuses (wanted : Form) (bytes out : List ℕ) (a : Handed) (x : List ℕ) : Type 0 where
+  pub refuses : (r : Refusal) → Unmoved wanted bytes longestRecord r
+      → Hands (for-error (refusedLine (r .number) (r .place))) out a x
+  pub only-then : (size : ℕ) → a ≡ Unhanded size → (r : Refusal) × Unmoved wanted bytes longestRecord r
 
 -- EVERY ENTRY, whatever is handed to it
 pub record Demand1 : Type 2 where
@@ -132,6 +157,7 @@ pub record Demand1 : Type 2 where
   pub margin-rules : (n : Net) (m k post : ℕ) → MarginRules n m k post
   pub read-rules : (bytes : List ℕ) (room ratioRoom : ℕ) → ReadRules bytes room ratioRoom
   pub write-rules : (n : Net) (m k room : ℕ) → WriteRules n m k room
+  pub move-rules : (wanted : Form) (bytes : List ℕ) (room : ℕ) → MoveRules wanted bytes room
   -- over a lent list of segments
   pub build : Says entry.build
       (λ κs (h, (p, (q, (segments, (l, (s, (w, _))))))) a (_, (_, (_, (_, (l′, (s′, (w′, _))))))).
@@ -170,6 +196,15 @@ pub record Demand1 : Type 2 where
   pub record-margin : Says entry.record-margin (λ κs (bytes, (_, (post, _))) a _.
       Refuses (Unmeasured (now bytes) post) (λ r. marginSaysOf a ≡ B.MarginAnswer.refused r) (Unit {0}))
   pub record-check : Says entry.record-check (λ κs (bytes, _) a _. CheckRefuses (recordRead (now bytes)) a)
+  pub to-second : Says entry.to-second (λ κs (bytes, (room, _)) a (_, (x, _)).
+      Refuses (Unmoved Second (now bytes) (length (now room))) (λ r. saysWritten a ≡ refusal-of r) (x ≡ now room))
+  pub to-first : Says entry.to-first (λ κs (bytes, (room, _)) a (_, (x, _)).
+      Refuses (Unmoved First (now bytes) (length (now room))) (λ r. saysWritten a ≡ refusal-of r) (x ≡ now room))
+  -- "Back is possible exactly if every post's p and q equal the house p and q as numbers."
+  pub back-exactly : Says entry.to-first (λ κs (bytes, _) a _. BackExactly (now bytes) a)
+  -- by the program that moves, of as much as it read
+  pub hand-on : Says entry.hand-on (λ κs (way, (input, (n, (out, _)))) a (_, (_, (_, (x, _)))).
+      HandRefuses (wantedBy way) (take n (now input)) (now out) a x)
   -- for C: 0 or a length, or the refusal's number and place in one number
   pub c-check : Says entry.c-check (λ κs (bytes, _) a _.
       RefusesInNumber (λ r. recordRead (now bytes) ≡ unread r) (λ r. a ≡ packed r) (Unit {0}) (a ≡ 0))
@@ -179,6 +214,12 @@ pub record Demand1 : Type 2 where
   pub c-rewrite : Says entry.c-rewrite (λ κs (bytes, (room, _)) a (_, (x, _)).
       RefusesInNumber (Unwritten (now bytes) (length (now room))) (λ r. a ≡ marked r) (x ≡ now room)
       ((n : Net) (next : ℕ) → recordRead (now bytes) ≡ got n next → a ≡ length (netWritten n)))
+  pub c-to-second : Says entry.c-to-second (λ κs (bytes, (room, _)) a (_, (x, _)).
+      RefusesInNumber (Unmoved Second (now bytes) (length (now room))) (λ r. a ≡ marked r) (x ≡ now room)
+      ((n : Net) (next : ℕ) → recordRead (now bytes) ≡ got n next → a ≡ length (netWritten (inSecond n))))
+  pub c-to-first : Says entry.c-to-first (λ κs (bytes, (room, _)) a (_, (x, _)).
+      RefusesInNumber (Unmoved First (now bytes) (length (now room))) (λ r. a ≡ marked r) (x ≡ now room)
+      ((n : Net) (next : ℕ) → recordRead (now bytes) ≡ got n next → a ≡ length (netWritten (inFirst n))))
   pub c-margin : Says entry.c-margin (λ κs (bytes, (_, (post, (d, _)))) a (_, (_, (_, (d′, _)))).
       RefusesInNumber (Unmeasured (now bytes) post) (λ r. a ≡ packed r) (d′ ≡ now d) (a ≡ 0))
   pub c-drawn : Says entry.c-drawn (λ κs (corner, (first, (second, _))) a _.

@@ -3,19 +3,22 @@
 -- whole number of sixteenths that it is." The definitions of net/specs compute the trees; `TreesAsStated` is what they
 -- come to in document 01's own words, over chains, routes and the walk's rules. The rest is said of the outcomes that
 -- the entries' own contracts allow (`Says`, specs/Contracts): what building leaves in the lent lists, a margin that is
--- given, what is printed. The ratio of a post stands in specs/Ratios, records both ways in specs/Records. Drawn runs
--- are said over `drawnOf`, which is that contract (specs/Tied). What an answer says, its number and values, is
--- `saysOf`, `saysPlanned`, `marginSaysOf`, `saysBy`, `saysWritten` and, of a run, `drawnSays`.
+-- given, what is printed and what is handed on. The ratio of a post stands in specs/Ratios, records both ways in
+-- specs/Records. Drawn runs are said over `drawnOf`, which is that contract (specs/Tied). What an answer says, its
+-- number and values, is `saysOf`, `saysPlanned`, `marginSaysOf`, `saysBy`, `saysWritten` and, of a run, `drawnSays`.
 use mathlib.Core.Path.{_≡_}
 use mathlib.Core.Logic.{_↔_}
 use mathlib.Core.Bool.{false}
 use mathlib.Core.List.{List}
+use mathlib.Core.Option.{some}
 use Prim.Native.Nat.{ℕ, _+_, _*_, _≤_, _<_}
 use lib.Dec.{ltb}
 use lib.IntN.{ℤ, pos, subℕ}
 use lib.Signed.{ltZ}
 use lib.Ieee.{Float}
 use lib.ListN.{length, take, drop}
+use Rattle.net.specs.declared.Form.{Form}
+use Rattle.net.specs.declared.Form.the-variants.{First, Second}
 use Rattle.net.specs.declared.Head.{Head}
 use Rattle.net.specs.declared.Measured.{Measured}
 use Rattle.net.specs.declared.Segment.{Segment}
@@ -23,6 +26,7 @@ use Rattle.net.specs.declared.Tree.{Tree}
 use Rattle.net.specs.declared.Tree.the-variants.{Shortest, Between}
 use denote.Ref.{now}
 use Rattle.net.specs.Net.{Net, house, scaled, every, lengthAt, setLength, mostPosts}
+use Rattle.net.specs.Refusals.{refusal}
 use Rattle.net.specs.Trees.{at, IsLeast, HangsBy, ExactlyBelonging, Climb, IsTree, entry, usedBy, pathIn}
 use Rattle.net.specs.Walk.{Notes, Given}
 use Rattle.net.specs.WalkRules.{WalkGives}
@@ -35,12 +39,19 @@ use Rattle.margins.specs.Answers.{marginSaysOf}
 use Rattle.margins.specs.declared.MarginAnswer.{MarginAnswer}
 use Rattle.numbers.specs.Numbers.{Bytes, got}
 use Rattle.reading.specs.Longest.{LongestRecord}
-use Rattle.writing.specs.Answers.{result}
+use Rattle.writing.specs.Writing.{netWritten}
+use Rattle.writing.specs.Answers.{result, saysWritten}
 use Rattle.on_records.specs.Asked.{recordRead}
 use Rattle.on_records.specs.Says.{Plan, saysPlanned}
-use Rattle.reading.specs.Reading.{enoughBytes}
+use Rattle.reading.specs.Reading.{longestRecord, enoughBytes}
+use Rattle.moves.specs.Moves.{inForm, moveRefusal}
 use Rattle.printing.specs.Printed.{printed, answerText}
+<<<<<<< ours
 use Rattle.drawn.specs.Drawn.{drawnOf}
+=======
+use Rattle.moving.specs.Handing.{wantedBy, handing, answerHanding, Hands}
+use Rattle.drawn.specs.Drawn.{most, drawnOf}
+>>>>>>> theirs
 use Rattle.drawn.specs.Says.{sixteenths, saysOf as drawnSays}
 use Rattle.drawn.specs.Rules.{Long, BothLong}
 use Rattle.drawn.specs.declared.Run.the-variants.{Straight, Corner}
@@ -49,6 +60,7 @@ use Rattle.promises.specs.Contracts.{Says}
 use Rattle.promises.specs.Entries as entry
 use Rattle.promises.specs.Ratios.{RatiosAsStated, ScaledAsStated, ScaledBy, OwnScaledBy, SomeScaled}
 use Rattle.promises.specs.Records.{RecordsBothWays}
+use Rattle.promises.specs.Moves.{MovedAsStated, MovesBothWays}
 
 -- THE TREES of a net that building takes
 -- what its walk is given: "Walk the lightest tree", the shortest tree and D for laying, and each post's own ratio
@@ -167,6 +179,26 @@ pub record ProgramAsStated : Type 2 where
       → take n (now input) ≡ take (length (now input)) bytes → take r out ≡ printed bytes)
   pub reads-enough : Says entry.print (λ κs (input, _) r _. length (now input) ≡ enoughBytes)
 
+-- THE PROGRAM THAT MOVES: it hands on the record in the form that is wanted, or the one line of a refusal
+pub record MoveProgramAsStated : Type 2 where
+  -- what is handed on for a record is the move's answer in a room that takes the longest record: the front of the room
+  -- where it says a length, the line of the refusal where it is refused
+  pub to-second : Says entry.to-second (λ κs (bytes, (room, _)) a (_, (x, _)).
+      length (now room) ≡ longestRecord → handing Second (now bytes) ≡ answerHanding a x)
+  pub to-first : Says entry.to-first (λ κs (bytes, (room, _)) a (_, (x, _)).
+      length (now room) ≡ longestRecord → handing First (now bytes) ≡ answerHanding a x)
+  -- where what was read is as much of the input as there is room for, what is handed on is that for the whole input,
+  -- and behind it the room is as it was
+  pub whole-input : Says entry.hand-on (λ κs (way, (input, (n, (out, _)))) r (_, (_, (_, (out′, _)))).
+      (bytes : List ℕ) → Bytes bytes → take n (now input) ≡ take (length (now input)) bytes
+      → Hands (handing (wantedBy way) bytes) (now out) r out′)
+  pub reads-enough : Says entry.hand-on (λ κs (_, (input, _)) r _. length (now input) ≡ enoughBytes)
+  -- that room takes every record that a move makes, so 18 is never given for a net that was read
+  pub room-enough : (wanted : Form) (bytes : List ℕ) (n : Net) (next : ℕ) → recordRead bytes ≡ got n next
+      → length (netWritten (inForm wanted n)) ≤ longestRecord
+  pub no-eighteen : (wanted : Form) (bytes : List ℕ) (n : Net) (next : ℕ) → recordRead bytes ≡ got n next
+      → (place : ℕ) → moveRefusal wanted n longestRecord ≡ some (refusal 18 place) → ⊥
+
 -- EVERY ENTRY
 pub record Demand2 : Type 2 where
   -- over a lent list of segments
@@ -191,6 +223,12 @@ pub record Demand2 : Type 2 where
   pub record-margin : Says entry.record-margin (λ κs (bytes, (t, (post, _))) a _.
       (z : ℤ) → marginSaysOf a ≡ B.MarginAnswer.margin z
       → (n : Net) (next : ℕ) → recordRead (now bytes) ≡ got n next → MarginAsStated n t post z)
+  pub to-second : Says entry.to-second (λ κs (bytes, (room, _)) a (_, (x, _)).
+      (size : ℕ) → saysWritten a ≡ result size → MovedAsStated Second (now bytes) (now room) size x)
+  pub to-first : Says entry.to-first (λ κs (bytes, (room, _)) a (_, (x, _)).
+      (size : ℕ) → saysWritten a ≡ result size → MovedAsStated First (now bytes) (now room) size x)
+  -- "Forward then back must give the old bytes"
+  pub moves : MovesBothWays
   -- of every net that is lent
   pub ratios : (h : Head) (p q : List ℕ) (segments : List Segment) → RatiosAsStated h p q segments
   -- "The ratio isn't reduced": the house ratio, in either form
@@ -204,3 +242,4 @@ pub record Demand2 : Type 2 where
   pub longest : LongestRecord
   pub drawn : DrawnAsStated
   pub program : ProgramAsStated
+  pub move-program : MoveProgramAsStated

@@ -10,12 +10,17 @@ use Rattle.on_records.proofs.plan as of-plan
 use Rattle.on_records.proofs.rewrite as of-rewrite
 use Rattle.on_records.proofs.margin as of-record-margin
 use Rattle.on_records.proofs.check as of-record-check
+use Rattle.moves.proofs.to_second as of-to-second
+use Rattle.moves.proofs.to_first as of-to-first
 use Rattle.c_calls.proofs.drover_check as of-c-check
 use Rattle.c_calls.proofs.drover_plan as of-c-plan
 use Rattle.c_calls.proofs.drover_rewrite as of-c-rewrite
+use Rattle.c_calls.proofs.drover_to_second as of-c-to-second
+use Rattle.c_calls.proofs.drover_to_first as of-c-to-first
 use Rattle.c_calls.proofs.drover_margin as of-c-margin
 use Rattle.c_calls.proofs.drover_drawn as of-c-drawn
 use Rattle.printing.proofs.print as of-print
+use Rattle.moving.proofs.hand_on as of-hand-on
 use Rattle.building.proofs.build as of-build-lists
 use Rattle.margins.proofs.margin as of-margin-lists
 use Rattle.writing.proofs.write as of-write-lists
@@ -66,6 +71,12 @@ record-margin = record { ended = of-record-margin.ended; clauses = λ M. of-reco
 abbrev pub record-check : Function
 record-check = record { ended = of-record-check.ended; clauses = λ M. of-record-check.clauses }
 
+abbrev pub to-second : Function
+to-second = record { ended = of-to-second.ended; clauses = λ M. of-to-second.clauses }
+
+abbrev pub to-first : Function
+to-first = record { ended = of-to-first.ended; clauses = λ M. of-to-first.clauses }
+
 -- For C
 abbrev pub c-check : Function
 c-check = record { ended = of-c-check.ended; clauses = λ M. of-c-check.clauses }
@@ -76,15 +87,24 @@ c-plan = record { ended = of-c-plan.ended; clauses = λ M. of-c-plan.clauses }
 abbrev pub c-rewrite : Function
 c-rewrite = record { ended = of-c-rewrite.ended; clauses = λ M. of-c-rewrite.clauses }
 
+abbrev pub c-to-second : Function
+c-to-second = record { ended = of-c-to-second.ended; clauses = λ M. of-c-to-second.clauses }
+
+abbrev pub c-to-first : Function
+c-to-first = record { ended = of-c-to-first.ended; clauses = λ M. of-c-to-first.clauses }
+
 abbrev pub c-margin : Function
 c-margin = record { ended = of-c-margin.ended; clauses = λ M. of-c-margin.clauses }
 
 abbrev pub c-drawn : Function
 c-drawn = record { ended = of-c-drawn.ended; clauses = λ M. of-c-drawn.clauses }
 
--- The program's text
+-- The programs: the text of one, and what the other hands on
 abbrev pub print : Function
 print = record { ended = of-print.ended; clauses = λ M. of-print.clauses }
+
+abbrev pub hand-on : Function
+hand-on = record { ended = of-hand-on.ended; clauses = λ M. of-hand-on.clauses }
 
 -- Over plain lists
 abbrev pub build-lists : Function

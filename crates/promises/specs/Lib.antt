@@ -2,6 +2,7 @@
 pub mod Contracts
 pub mod Entries
 pub mod Tied
+pub mod Moves
 pub mod Demand1
 pub mod Ratios
 pub mod Records

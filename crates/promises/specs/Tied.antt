@@ -10,6 +10,7 @@ use Rattle.net.specs.Net.{every, mostPosts, mostSegments, ownOf}
 use Rattle.net.specs.Ready.{netBy, ratiosBy, segmentsBy, ratioCountBy, countBy}
 use Rattle.net.specs.Refusals.{checkedOf, first, headLines, ratioLines, ownLines, segmentLines, checkOf}
 use Rattle.net.specs.Building.{marginOf}
+use Rattle.net.specs.declared.Form.the-variants.{First, Second}
 use Rattle.crossings.specs.Lists.{netOn}
 use Rattle.building.specs.Answers.{Leaves}
 use Rattle.margins.specs.Answers.{marginAnswerOf}
@@ -21,10 +22,12 @@ use Rattle.reading.specs.Answers.{ReadsLists, checkRead}
 use Rattle.writing.specs.Answers.{Writes}
 use Rattle.on_segments.specs.Reading.{Reads}
 use Rattle.on_records.specs.Asked.{recordRead, Plans, Rewrites, marginRead}
+use Rattle.moves.specs.Moves.{ToSecond, ToFirst}
 use Rattle.printing.specs.Printed.{Prints}
+use Rattle.moving.specs.Handing.{HandsOn}
 use Rattle.c_numbers.specs.Named.{runNamed}
 use Rattle.c_calls.specs.Numbers.{checkNumber, drawnNumber}
-use Rattle.c_calls.specs.Left.{PlanLeaves, RewriteLeaves, MarginLeaves}
+use Rattle.c_calls.specs.Left.{PlanLeaves, RewriteLeaves, MoveLeaves, MarginLeaves}
 use Rattle.drawn.specs.Drawn.{drawnOf}
 use Rattle.promises.specs.Contracts.{Function, Times, Handed, Answer, Left, AsksNothing, Says}
 use Rattle.promises.specs.Entries as entry
@@ -56,19 +59,29 @@ pub record Tied : Type 2 where
   pub record-margin : Keeps entry.record-margin (λ κs (bytes, (tree, (post, _))) a _.
       a ≡ marginRead (now bytes) tree post)
   pub record-check : Keeps entry.record-check (λ κs (bytes, _) a _. a ≡ checkRead (recordRead (now bytes)))
+  pub to-second : Keeps entry.to-second (λ κs (bytes, (room, _)) a (_, (room′, _)).
+      ToSecond (now bytes) (now room) a room′)
+  pub to-first : Keeps entry.to-first (λ κs (bytes, (room, _)) a (_, (room′, _)).
+      ToFirst (now bytes) (now room) a room′)
   -- for C
   pub c-check : Keeps entry.c-check (λ κs (bytes, _) a _. a ≡ checkNumber (checkRead (recordRead (now bytes))))
   pub c-plan : Keeps entry.c-plan (λ κs (bytes, (l, (s, (w, (d, _))))) a (_, (l′, (s′, (w′, (d′, _))))).
       PlanLeaves (now bytes) (now l) (now s) (now w) (now d) a l′ s′ w′ d′)
   pub c-rewrite : Keeps entry.c-rewrite (λ κs (bytes, (room, _)) a (_, (room′, _)).
       RewriteLeaves (now bytes) (now room) a room′)
+  pub c-to-second : Keeps entry.c-to-second (λ κs (bytes, (room, _)) a (_, (room′, _)).
+      MoveLeaves Second (now bytes) (now room) a room′)
+  pub c-to-first : Keeps entry.c-to-first (λ κs (bytes, (room, _)) a (_, (room′, _)).
+      MoveLeaves First (now bytes) (now room) a room′)
   pub c-margin : Keeps entry.c-margin (λ κs (bytes, (tree, (post, (d, _)))) a (_, (_, (_, (d′, _)))).
       MarginLeaves (now bytes) tree post (now d) a d′)
   pub c-drawn : Keeps entry.c-drawn (λ κs (corner, (first, (second, _))) a _.
       a ≡ drawnNumber (drawnOf (runNamed corner first second)))
-  -- the program's text
+  -- the programs: the text of one, and what the other hands on
   pub print : Keeps entry.print (λ κs (input, (n, (out, _))) r (_, (_, (out′, _))).
       Prints (now input) n (now out) r out′)
+  pub hand-on : Keeps entry.hand-on (λ κs (way, (input, (n, (out, _)))) r (_, (_, (_, (out′, _)))).
+      HandsOn way (now input) n (now out) r out′)
   -- over plain lists
   pub build-lists : Keeps entry.build-lists
       (λ κs (h, (p, (q, (a, (b, (lengths, (l, (s, (w, _)))))))))

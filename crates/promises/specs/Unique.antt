@@ -19,14 +19,19 @@ pub record Unique : Type 2 where
   pub rewrite : OneOutcome entry.rewrite
   pub record-margin : OneOutcome entry.record-margin
   pub record-check : OneOutcome entry.record-check
+  pub to-second : OneOutcome entry.to-second
+  pub to-first : OneOutcome entry.to-first
   -- for C
   pub c-check : OneOutcome entry.c-check
   pub c-plan : OneOutcome entry.c-plan
   pub c-rewrite : OneOutcome entry.c-rewrite
+  pub c-to-second : OneOutcome entry.c-to-second
+  pub c-to-first : OneOutcome entry.c-to-first
   pub c-margin : OneOutcome entry.c-margin
   pub c-drawn : OneOutcome entry.c-drawn
-  -- of the program's text
+  -- of the programs: the text of one, and what the other hands on
   pub print : OneOutcome entry.print
+  pub hand-on : OneOutcome entry.hand-on
   -- over plain lists
   pub build-lists : OneOutcome entry.build-lists
   pub margin-lists : OneOutcome entry.margin-lists

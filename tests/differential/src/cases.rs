@@ -6,10 +6,10 @@ use generate::{
     Random, Shape,
 };
 use reference::worked::{
-    built_of_second_form, net_a, net_a_own, net_b, net_c, two_posts, RECORD_A,
+    built_of_second_form, moves, net_a, net_a_own, net_b, net_c, two_posts, RECORD_A,
     REFUSED_OF_SECOND_FORM,
 };
-use reference::Net;
+use reference::{read, Net};
 
 /// Whether a case's record is that of a sound net, or a damaged one.
 #[derive(Clone, Copy, Debug, PartialEq, Eq)]
@@ -51,8 +51,25 @@ fn net_of_wide_ratios() -> Net {
     Net::new(4, 2, (10_000, 9_999), &list).with_own(&own)
 }
 
+/// Net A in the second form from each source, with the house ratio for each post
+/// and with another, as large and not, for each one.
+fn nets_nearly_of_the_house_ratio() -> Vec<Net> {
+    let mut nets = Vec::new();
+    for source in 0..4 {
+        let whole = net_a_own((2, 2), [(2, 2); 3]);
+        nets.push(Net { source, ..whole });
+        for (at, ratio) in (0..6).map(|number| (number / 2, [(1, 1), (2, 3)][number % 2])) {
+            let mut own = [(2, 2); 3];
+            own[at] = ratio;
+            let net = net_a_own((2, 2), own);
+            nets.push(Net { source, ..net });
+        }
+    }
+    nets
+}
+
 /// The inputs that are always the same: the worked nets and the records worked
-/// for Req 01; the special nets; the worked records and one of wide numbers, of
+/// for Req 01 and Req 02; the special nets; nets of nearly the house ratio; the worked records and one of wide numbers, of
 /// both forms, cut at each byte; net A's of both forms with each byte changed;
 /// each fault of a net and each kind of damage.
 pub fn fixed_cases() -> Vec<Case> {
@@ -72,6 +89,16 @@ pub fn fixed_cases() -> Vec<Case> {
     }
     for (record, ..) in REFUSED_OF_SECOND_FORM {
         add(Kind::Damaged, record.to_vec());
+    }
+    for row in moves() {
+        let kind = match read(&row.record) {
+            Ok(_) => Kind::Net,
+            Err(_) => Kind::Damaged,
+        };
+        add(kind, row.record);
+    }
+    for net in nets_nearly_of_the_house_ratio() {
+        add(Kind::Net, encode(&net));
     }
     // The special nets begin with those that are worked.
     for net in special_nets().iter().skip(worked.len()) {

@@ -3,7 +3,7 @@
 //! A refusal is its number × 2^32 + its place. The crate `droverboot` says what
 //! each of them does.
 
-use reference::{Built, Net, Refusal};
+use reference::{Built, Net, Refusal, To};
 
 /// The library's functions, from wherever they come.
 pub trait Functions: Sync {
@@ -27,6 +27,10 @@ pub trait Functions: Sync {
     /// Reads a record and writes it: the length, or 2^63 + the refusal.
     fn rewrite(&self, record: &[u8], room: &mut [u8]) -> u64;
 
+    /// Reads a record and writes it in the other form: the length, or 2^63 + the
+    /// refusal.
+    fn moved(&self, record: &[u8], to: To, room: &mut [u8]) -> u64;
+
     /// Reads a record and puts the margin of a post in a tree into the first
     /// entry of `out`: 0, or the refusal.
     fn margin(&self, record: &[u8], tree: u32, post: u32, out: &mut [i64]) -> u64;
@@ -36,6 +40,14 @@ pub trait Functions: Sync {
 
     /// What the bindings print for a record, in the program's form.
     fn printed(&self, record: &[u8]) -> String;
+}
+
+/// The name of the function that moves a record.
+pub fn name_of_move(to: To) -> &'static str {
+    match to {
+        To::Second => "drover_to_second",
+        To::First => "drover_to_first",
+    }
 }
 
 /// How many numbers a summary has.
@@ -86,6 +98,7 @@ pub use linked::Linked;
 #[cfg(feature = "library")]
 mod linked {
     use droverboot::{plan, raw};
+    use reference::To;
 
     use super::Functions;
 
@@ -114,6 +127,13 @@ mod linked {
 
         fn rewrite(&self, record: &[u8], room: &mut [u8]) -> u64 {
             raw::rewrite(record, room)
+        }
+
+        fn moved(&self, record: &[u8], to: To, room: &mut [u8]) -> u64 {
+            match to {
+                To::Second => raw::to_second(record, room),
+                To::First => raw::to_first(record, room),
+            }
         }
 
         fn margin(&self, record: &[u8], tree: u32, post: u32, out: &mut [i64]) -> u64 {

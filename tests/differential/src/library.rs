@@ -10,13 +10,15 @@ use generate::{drawn, encode, lent, special_nets, Random};
 use reference::net::MOST_LENGTH;
 use reference::record::{LONGEST_FIRST_FORM, LONGEST_RECORD};
 use reference::{
-    build, drawn_length, program_output, read, three_trees, write_into, Form, Net, Refusal, Run,
-    Tree, Trees,
+    build, drawn_length, moved, moved_into, program_output, read, three_trees, write_into, Form,
+    Net, Refusal, Run, To, Tree, Trees,
 };
 
 use crate::cases::Case;
-use crate::counts::Counts;
-use crate::functions::{nothing_or_refusal, number_or_refusal, summary, Functions, SUMMARY};
+use crate::counts::{Counts, Ending};
+use crate::functions::{
+    name_of_move, nothing_or_refusal, number_or_refusal, summary, Functions, SUMMARY,
+};
 use crate::lent::Lent;
 use crate::run::{Difference, Found, Lot, Subject};
 
@@ -205,6 +207,50 @@ impl<F: Functions> Library<F> {
         Ok(())
     }
 
+    /// The move into each form, with a room that may be too short; and wherever it
+    /// can be made, the move there and home again, which must give the old bytes.
+    fn compare_moves(
+        &self,
+        right: &Right,
+        random: &mut Random,
+        counts: &mut Counts,
+    ) -> Result<(), Difference> {
+        for to in To::ALL {
+            let there = moved(right.record, to);
+            let needed = there.as_ref().map_or(right.record.len(), Vec::len);
+            let length = lent::any_length(random, needed);
+            self.compare_move(right.record, to, length, random, counts)?;
+            if let Ok(there) = there {
+                self.compare_move(right.record, to, there.len(), random, counts)?;
+                let home = right.record.len();
+                let home = self.compare_move(&there, to.back(), home, random, counts)?;
+                equal("home again", right.record, &home[..])?;
+                counts.moved(to, Ending::Home);
+            }
+        }
+        Ok(())
+    }
+
+    /// One move into a room of this length, which it hands back.
+    fn compare_move(
+        &self,
+        record: &[u8],
+        to: To,
+        length: usize,
+        random: &mut Random,
+        counts: &mut Counts,
+    ) -> Result<Vec<u8>, Difference> {
+        let mut got: Lent<u8> = Lent::canaries(random, length);
+        let mut room = got.clone();
+        let expected = moved_into(record, to, room.part());
+        let answer = self.functions.moved(record, to, got.part());
+        let right = number_or_refusal(expected.map(|length| length as u64));
+        equal(name_of_move(to), (right, &room), (answer, &got))?;
+        counts.answer(&expected);
+        counts.moved(to, Ending::of(&expected));
+        Ok(got.part().to_vec())
+    }
+
     /// The margin of one post in each of the trees, and in the between tree by a
     /// larger number.
     fn compare_margins(
@@ -359,6 +405,7 @@ impl<F: Functions> Subject for Library<F> {
         self.compare_check(&right, counts)?;
         self.compare_plan(&right, &mut random, counts)?;
         self.compare_rewrite(&right, &mut random, counts)?;
+        self.compare_moves(&right, &mut random, counts)?;
         self.compare_margins(&right, &mut random, counts)?;
         self.compare_runs(&mut random, counts)?;
         self.compare_printed(record)?;
@@ -377,7 +424,11 @@ impl<F: Functions> Subject for Library<F> {
 
     fn refusals(&self) -> &[u32] {
         &[
-            1, 2, 3, 4, 5, 6, 7, 8, 9, 10, 11, 12, 13, 14, 15, 16, 17, 18, 19,
+            1, 2, 3, 4, 5, 6, 7, 8, 9, 10, 11, 12, 13, 14, 15, 16, 17, 18, 19, 20, 30,
         ]
+    }
+
+    fn moves(&self) -> &[Ending] {
+        &Ending::ALL
     }
 }

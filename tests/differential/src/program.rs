@@ -1,14 +1,14 @@
 //! A program as subject: run once per record, through its standard input and
 //! output. It always ends with status 0, refused or not.
 
-use std::io::{self, ErrorKind, Read, Write};
-use std::process::{Command, ExitStatus, Stdio};
+use std::io::{self, ErrorKind, Write};
+use std::process::{Command, Output, Stdio};
 
 use reference::program::planned;
 use reference::program_output;
 
 use crate::cases::Case;
-use crate::counts::Counts;
+use crate::counts::{Counts, Ending};
 use crate::run::{Difference, Subject};
 
 /// The program.
@@ -22,27 +22,28 @@ impl Program {
         Program { path: path.into() }
     }
 
+    /// Where it is.
+    pub fn name(&self) -> &str {
+        &self.path
+    }
+
     /// What the program prints for this input, and how it ends.
-    pub fn output(&self, input: &[u8]) -> io::Result<(Vec<u8>, ExitStatus)> {
+    pub fn ended(&self, input: &[u8]) -> io::Result<Output> {
         let mut child = Command::new(&self.path)
             .stdin(Stdio::piped())
             .stdout(Stdio::piped())
+            .stderr(Stdio::piped())
             .spawn()?;
         // An input fits into the pipe, so writing it doesn't wait for the
         // program, which needn't read all of it.
         let mut stdin = child.stdin.take().expect("piped");
         let written = stdin.write_all(input);
         drop(stdin);
-        let mut output = Vec::new();
-        let mut stdout = child.stdout.take().expect("piped");
-        let read = stdout.read_to_end(&mut output);
-        let status = child.wait()?;
+        let output = child.wait_with_output()?;
         match written {
-            Err(error) if error.kind() != ErrorKind::BrokenPipe => return Err(error),
-            _ => {}
+            Err(error) if error.kind() != ErrorKind::BrokenPipe => Err(error),
+            _ => Ok(output),
         }
-        read?;
-        Ok((output, status))
     }
 }
 
@@ -55,15 +56,15 @@ impl Subject for Program {
     /// the bounds are the reference's, and the program's are the same then.
     fn compare(&self, case: &Case, counts: &mut Counts) -> Result<(), Difference> {
         let expected = program_output(&case.record);
-        let (got, status) = match self.output(&case.record) {
+        let ended = match self.ended(&case.record) {
             Ok(ended) => ended,
             Err(error) => return Err(Difference::new("program", expected, error)),
         };
-        if !status.success() {
-            return Err(Difference::new("program", "exit status: 0", status));
+        if !ended.status.success() {
+            return Err(Difference::new("program", "exit status: 0", ended.status));
         }
-        if got != expected.as_bytes() {
-            let got = String::from_utf8_lossy(&got);
+        if ended.stdout != expected.as_bytes() {
+            let got = String::from_utf8_lossy(&ended.stdout);
             return Err(Difference::new("program", expected, got));
         }
         let right = planned(&case.record);
@@ -76,5 +77,9 @@ impl Subject for Program {
 
     fn refusals(&self) -> &[u32] {
         &[1, 2, 3, 4, 5, 6, 7, 9, 10, 11, 12]
+    }
+
+    fn moves(&self) -> &[Ending] {
+        &[]
     }
 }

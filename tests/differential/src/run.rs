@@ -6,7 +6,7 @@ use std::sync::Mutex;
 use std::thread;
 
 use crate::cases::{fixed_cases, random_case, Case};
-use crate::counts::Counts;
+use crate::counts::{Counts, Ending};
 
 /// The seed that never changes.
 pub const FIXED_SEED: u64 = 8_003;
@@ -103,6 +103,9 @@ pub trait Subject: Sync {
 
     /// The numbers of the refusals that must be met.
     fn refusals(&self) -> &[u32];
+
+    /// The endings of moves that must be met; none if it moves no records.
+    fn moves(&self) -> &[Ending];
 }
 
 fn compare_case(subject: &dyn Subject, case: Case, counts: &mut Counts) -> Result<(), Found> {
@@ -195,6 +198,10 @@ pub fn compare_all(subject: &dyn Subject, options: &Options) -> ExitCode {
     }
     if let Some(number) = all.never_met(subject.refusals()) {
         println!("refusal {number} was never met: the inputs say too little");
+        return ExitCode::FAILURE;
+    }
+    if let Some((to, ending)) = all.never_ended(subject.moves()) {
+        println!("no move to the form {to:?} ended with {ending:?}: the inputs say too little");
         return ExitCode::FAILURE;
     }
     all.report(subject.name());

@@ -6,6 +6,8 @@ use std::io::{self, BufReader, BufWriter, Read, Write};
 use std::process::{ChildStdin, ChildStdout, Command, Stdio};
 use std::sync::Mutex;
 
+use reference::To;
+
 use crate::functions::{Functions, SUMMARY};
 
 /// The answer in place of the library's where the server ended, or where
@@ -23,6 +25,8 @@ enum Function {
     Rewrite,
     Margin,
     Drawn,
+    ToSecond,
+    ToFirst,
 }
 
 /// Entries as bytes, lowest first.
@@ -172,6 +176,14 @@ impl Functions for Served {
 
     fn rewrite(&self, record: &[u8], mut room: &mut [u8]) -> u64 {
         self.ask(Function::Rewrite, [0; 3], record, &mut [&mut room])
+    }
+
+    fn moved(&self, record: &[u8], to: To, mut room: &mut [u8]) -> u64 {
+        let function = match to {
+            To::Second => Function::ToSecond,
+            To::First => Function::ToFirst,
+        };
+        self.ask(function, [0; 3], record, &mut [&mut room])
     }
 
     fn margin(&self, record: &[u8], tree: u32, post: u32, mut out: &mut [i64]) -> u64 {

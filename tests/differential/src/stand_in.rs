@@ -1,12 +1,13 @@
 //! The library's functions made from the reference, to test the comparison of a
 //! library without one. They can make a slip on purpose.
 
+use reference::move_slips::{slipped_moved_into, MoveSlip};
 use reference::slips::{
     drawn_by_refusal, house_margin, slipped_read, slipped_record, slipped_trees, LentSlip, Slip,
 };
 use reference::{
-    build, drawn_length, margin, program_output, read, three_trees, write_into, Net, Refusal, Run,
-    Tree,
+    build, drawn_length, margin, moved_into, program_output, read, three_trees, write_into, Net,
+    Refusal, Run, To, Tree,
 };
 
 use crate::functions::{nothing_or_refusal, number_or_refusal, summary, Functions};
@@ -16,6 +17,12 @@ use crate::functions::{nothing_or_refusal, number_or_refusal, summary, Functions
 enum Fault {
     /// A slip in reading, or in the walk that makes the third tree.
     Slipped(Slip),
+    /// A slip in moving a record into the other form.
+    Moved(MoveSlip),
+    /// Moving changes a byte beyond the record.
+    MovedBeyond,
+    /// Moving marks a refusal as if it were a length.
+    MovedUnmarked,
     /// Checking accepts every record.
     Accepting,
     /// Planning writes an entry beyond the post count.
@@ -48,7 +55,9 @@ enum Fault {
     Silent,
 }
 
-const FAULTS: [Fault; 15] = [
+const FAULTS: [Fault; 17] = [
+    Fault::MovedBeyond,
+    Fault::MovedUnmarked,
     Fault::Accepting,
     Fault::Beyond,
     Fault::Touched,
@@ -76,6 +85,7 @@ impl StandIn {
     /// that of no slip.
     pub fn with_slip(name: &str) -> Self {
         let slipped = Slip::named(name).map(Fault::Slipped);
+        let slipped = slipped.or(MoveSlip::named(name).map(Fault::Moved));
         let named = |fault: &Fault| format!("{fault:?}") == name;
         StandIn {
             fault: slipped.or(FAULTS.into_iter().find(named)),
@@ -192,6 +202,25 @@ impl Functions for StandIn {
                 }
             }
             Err(refusal) if self.does(Fault::Unmarked) => return nothing_or_refusal(Err(refusal)),
+            _ => {}
+        }
+        number_or_refusal(length.map(|length| length as u64))
+    }
+
+    fn moved(&self, record: &[u8], to: To, room: &mut [u8]) -> u64 {
+        let length = match self.fault {
+            Some(Fault::Moved(slip)) => slipped_moved_into(record, to, room, slip),
+            _ => moved_into(record, to, room),
+        };
+        match length {
+            Ok(length) if self.does(Fault::MovedBeyond) => {
+                if let Some(byte) = room.get_mut(length) {
+                    *byte ^= 1;
+                }
+            }
+            Err(refusal) if self.does(Fault::MovedUnmarked) => {
+                return nothing_or_refusal(Err(refusal));
+            }
             _ => {}
         }
         number_or_refusal(length.map(|length| length as u64))

@@ -2,7 +2,7 @@
 
 use std::fs;
 use std::os::unix::fs::symlink;
-use std::path::Path;
+use std::path::{Path, PathBuf};
 use std::process::{Command, Output};
 
 fn differential(way: &str, arguments: &[&str]) -> Output {
@@ -76,22 +76,34 @@ fn a_wrong_exit_status_is_shown() {
     assert!(text.contains(shown), "{text}");
 }
 
-/// The command `plan` in a folder where the stand-in takes the program's place,
-/// and that of what runs it.
-fn plan_of_the_stand_in() -> String {
-    let command = Path::new(env!("CARGO_MANIFEST_DIR")).join("../../plan");
-    let text = fs::read_to_string(&command).expect("the command is there");
-    let named = text
-        .lines()
-        .find_map(|line| line.strip_prefix("program=$here/"));
-    let folder = Path::new(env!("CARGO_TARGET_TMPDIR")).join("plan_of_the_stand_in");
+/// A folder where these take the place of the programs, and that of what runs
+/// them, and the commands are those of the repository.
+fn commands_over(name: &str, programs: &[(&str, &str)], commands: &[&str]) -> PathBuf {
+    let root = Path::new(env!("CARGO_MANIFEST_DIR")).join("../..");
+    let folder = Path::new(env!("CARGO_TARGET_TMPDIR")).join(name);
     let _ = fs::remove_dir_all(&folder);
-    for program in [named.expect("plan names its program"), "tools/x86-64"] {
-        let program = folder.join(program);
-        fs::create_dir_all(program.parent().expect("a folder")).expect("made");
-        symlink(STAND_IN, program).expect("linked");
+    let link = |from: &Path, to: &str| {
+        let to = folder.join(to);
+        fs::create_dir_all(to.parent().expect("a folder")).expect("made");
+        symlink(from, to).expect("linked");
+    };
+    for (program, to) in programs {
+        link(Path::new(program), to);
     }
-    symlink(command, folder.join("plan")).expect("linked");
+    for command in commands {
+        link(&root.join(command), command);
+    }
+    folder
+}
+
+/// The command `plan` in a folder where the stand-in takes the program's place.
+fn plan_of_the_stand_in() -> String {
+    let programs = [(STAND_IN, "target/bin/program"), (STAND_IN, "tools/x86-64")];
+    let folder = commands_over(
+        "plan_of_the_stand_in",
+        &programs,
+        &["plan", "tools/program"],
+    );
     let plan = folder.join("plan");
     plan.to_str().expect("a plain path").to_owned()
 }
@@ -138,6 +150,53 @@ fn a_server_that_ends_is_a_difference() {
     assert_eq!(nowhere.status.code(), Some(2));
 }
 
+const MOVER: &str = env!("CARGO_BIN_EXE_mover");
+
+fn compared_mover(way: &str, cases: &str) -> (Option<i32>, String) {
+    let arguments = ["--mover", MOVER, "--cases", cases, "--seed", "5"];
+    let output = differential(way, &arguments);
+    let text = String::from_utf8(output.stdout).expect("text");
+    (output.status.code(), text)
+}
+
+#[test]
+fn a_mover_made_from_the_reference_equals_it() {
+    let (status, text) = compared_mover("", "100");
+    assert_eq!(status, Some(0), "{text}");
+    assert!(text.contains("moves to the form First: Moved "), "{text}");
+    for number in [1, 2, 3, 4, 5, 6, 7, 10, 11, 12, 20, 30] {
+        assert!(text.contains(&format!(" {number}: ")), "{number}: {text}");
+    }
+}
+
+#[test]
+fn every_slip_of_a_mover_is_caught() {
+    for slip in [
+        "CrossProducts",
+        "SourceAsked",
+        "HighestPost",
+        "CountedRatios",
+        "EarlyForm",
+        "RatioForSource",
+        "ByOffset",
+        "OneByteP",
+        "JoinedOnly",
+        "Silent",
+        "Cut",
+        "Crash",
+        "Status",
+        "Both",
+        "Unwritten",
+    ] {
+        let (status, text) = compared_mover(slip, "0");
+        assert_eq!(status, Some(1), "{slip}: {text}");
+        let reported = "DIFFERENCE (mover) in fixed input";
+        assert!(text.contains(reported), "{slip}: {text}");
+    }
+    let nowhere = differential("", &["--mover", "no-such-program-here"]);
+    assert_eq!(nowhere.status.code(), Some(2));
+}
+
 fn compared_functions(slip: &str, cases: &str) -> (Option<i32>, String) {
     let arguments = [
         "--stand-in",
@@ -161,8 +220,14 @@ fn functions_made_from_the_reference_equal_it() {
     assert!(text.contains("seed 5 (clock): 300 equal"), "{text}");
     assert!(text.contains("the stand-in: all equal"), "{text}");
     assert!(text.contains(" margins, "), "{text}");
-    for number in 1..=19 {
+    for number in (1..=20).chain([30]) {
         assert!(text.contains(&format!(" {number}: ")), "{number}: {text}");
+    }
+    for moves in [
+        "moves to the form Second: Moved ",
+        "moves to the form First: Moved ",
+    ] {
+        assert!(text.contains(moves), "{text}");
     }
 }
 
@@ -189,6 +254,20 @@ fn every_slip_of_the_functions_is_caught() {
         ("Spilt", "drover_rewrite"),
         ("Unmarked", "drover_rewrite"),
         ("SourceWritten", "drover_rewrite"),
+        ("CrossProducts", "drover_to_first"),
+        ("SourceAsked", "drover_to_first"),
+        ("HighestPost", "drover_to_first"),
+        ("CountedRatios", "drover_to_first"),
+        ("LateForm", "drover_to_first"),
+        ("EarlyForm", "drover_to_second"),
+        ("EarlyRoom", "drover_to_first"),
+        ("RatioForSource", "drover_to_second"),
+        ("ByOffset", "drover_to_first"),
+        ("RoomTouched", "drover_to_second"),
+        ("OneByteP", "drover_to_second"),
+        ("JoinedOnly", "drover_to_second"),
+        ("MovedBeyond", "drover_to_second"),
+        ("MovedUnmarked", "drover_to_first"),
         ("Turned", "drover_margin"),
         ("HouseMargin", "drover_margin"),
         ("OtherTree", "drover_margin"),

@@ -395,15 +395,55 @@ fn any_ratio(random: &mut Random, overs: &[(u64, u64)]) -> Ratio {
     ratio(random, over)
 }
 
+/// A ratio near this one that isn't the same two numbers: at times it is as
+/// large.
+fn other_ratio(random: &mut Random, Ratio { p, q }: Ratio) -> Ratio {
+    let near = [
+        (2 * p, 2 * q),
+        (p / 2, q / 2),
+        (p + 1, q),
+        (p.wrapping_sub(1), q),
+        (p, q + 1),
+        (p, q - 1),
+        (q, p),
+        (0, q),
+    ];
+    let other = |&(r, s): &(u32, u32)| {
+        let numbers = r <= MOST_RATIO && (1..=MOST_RATIO).contains(&s);
+        numbers && (r, s) != (p, q)
+    };
+    let list: Vec<(u32, u32)> = near.into_iter().filter(other).collect();
+    let (p, q) = random.pick(&list);
+    Ratio::new(p, q)
+}
+
+/// The house ratio for each post but the source, and another for one of them,
+/// often the first or the last, or for some.
+fn nearly_house(random: &mut Random, net: &Net) -> Vec<Ratio> {
+    let house = net.house();
+    let mut own = vec![house; net.posts as usize - 1];
+    if let Some(last) = own.len().checked_sub(1) {
+        let any = random.index(own.len());
+        let one = random.pick(&[0, last, any, any]);
+        own[one] = other_ratio(random, house);
+        for _ in 0..random.pick(&[0, 0, 1, 5]) {
+            let more = random.index(own.len());
+            own[more] = other_ratio(random, house);
+        }
+    }
+    own
+}
+
 /// Own ratios for the posts but the source of a joined net: each by its own
 /// path, or all alike, or one of two, or all but a few loose, or all as the
-/// house ratio.
+/// house ratio, or all but one or a few.
 fn own_ratios(random: &mut Random, net: &Net, overs: &[(u64, u64)]) -> Vec<Ratio> {
     let posts = posts_but(net.source, net.posts);
     let [first, second] = [0; 2].map(|_| any_ratio(random, overs));
     let loose = Ratio::new(MOST_RATIO, random.pick(&[1, MOST_RATIO]));
-    match random.below(8) {
-        0 => posts.map(|_| net.house()).collect(),
+    match random.below(10) {
+        0 | 8 => posts.map(|_| net.house()).collect(),
+        9 => nearly_house(random, net),
         1 => posts.map(|_| first).collect(),
         2 | 3 => posts.map(|_| random.pick(&[first, second])).collect(),
         4 => posts

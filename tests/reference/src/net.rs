@@ -15,7 +15,7 @@ pub const MOST_RATIO: u32 = 10_000;
 /// A refusal: its number in document 01's table, and its place.
 #[derive(Clone, Copy, Debug, PartialEq, Eq, PartialOrd, Ord, Hash)]
 pub struct Refusal {
-    /// The number, 1 to 19.
+    /// The number: 1 to 20, or 30.
     pub number: u32,
     /// A segment, a post, an offset or a leg, as the number demands; or 0.
     pub place: u32,

@@ -1,5 +1,7 @@
-//! The nets that document 01 works by hand, and the records worked for Req 01.
+//! The nets that document 01 works by hand, and the records worked for Req 01 and
+//! Req 02.
 
+use crate::moves::To;
 use crate::net::{Net, MOST_LENGTH, MOST_POSTS, MOST_RATIO, MOST_SEGMENTS};
 
 /// Net A with this ratio: 4 posts, source 0.
@@ -123,6 +125,86 @@ pub const REFUSED_OF_SECOND_FORM: [(&[u8], u32, u32); 16] = [
     (&[0, 2, 0, 1, 2, 1, 1, 1, 0, 1, 4, 9], 12, 11),
     (&[0, 2, 0, 1, 2, 0, 1, 1], 9, 1),
 ];
+
+/// A move that is worked for Req 02.
+pub struct WorkedMove {
+    /// The form that is wanted.
+    pub to: To,
+    /// The record that is moved.
+    pub record: Vec<u8>,
+    /// The bytes of room that are lent.
+    pub room: usize,
+    /// The record afterwards, or the refusal's number and place.
+    pub answer: Result<Vec<u8>, (u32, u32)>,
+}
+
+/// The moves that are worked, row by row.
+pub fn moves() -> Vec<WorkedMove> {
+    let forward = |record: &[u8], room, answer: &[u8]| WorkedMove {
+        to: To::Second,
+        record: record.to_vec(),
+        room,
+        answer: Ok(answer.to_vec()),
+    };
+    let back = |record: &[u8], room, answer: &[u8]| WorkedMove {
+        to: To::First,
+        ..forward(record, room, answer)
+    };
+    let refused = |to, record: &[u8], room, number, place| WorkedMove {
+        to,
+        record: record.to_vec(),
+        room,
+        answer: Err((number, place)),
+    };
+    let second_a = record_on_a(&[0, 4, 0, 1, 1, 5, 1, 1, 1, 1, 1, 1]);
+    let source_1 = [2, 1, 1, 2, 1, 0, 1, 172, 2];
+    vec![
+        forward(&RECORD_A, 30, &second_a),
+        refused(To::Second, &RECORD_A, 26, 18, 0),
+        back(&second_a, 22, &RECORD_A),
+        refused(To::First, &second_a, 19, 18, 0),
+        forward(
+            &RECORD_TWO_POSTS,
+            20,
+            &[0, 2, 0, 1, 2, 1, 1, 2, 0, 1, 172, 2],
+        ),
+        forward(&source_1, 20, &[0, 2, 1, 1, 2, 1, 1, 2, 0, 1, 172, 2]),
+        // p is 200: two bytes.
+        forward(
+            &[3, 1, 200, 1, 3, 0],
+            40,
+            &[0, 3, 1, 200, 1, 3, 0, 200, 1, 3, 200, 1, 3],
+        ),
+        forward(&[1, 0, 1, 2, 0], 8, &[0, 1, 0, 1, 2, 0]),
+        back(&[0, 1, 0, 1, 2, 0], 8, &[1, 0, 1, 2, 0]),
+        // It isn't joined.
+        forward(&[2, 0, 1, 2, 0], 20, &[0, 2, 0, 1, 2, 0, 1, 2]),
+        refused(To::Second, &second_a, 0, 30, 0),
+        refused(To::First, &RECORD_A, 0, 30, 0),
+        // As numbers; 20 before 18.
+        refused(To::First, &[0, 2, 0, 1, 1, 1, 2, 2, 0, 1, 4], 0, 20, 1),
+        // The lowest.
+        refused(
+            To::First,
+            &record_on_a(&[0, 4, 0, 1, 1, 5, 1, 1, 2, 1, 1, 2]),
+            0,
+            20,
+            2,
+        ),
+        // The source is 1.
+        refused(
+            To::First,
+            &record_on_a(&[0, 4, 1, 1, 1, 5, 1, 2, 1, 1, 1, 1]),
+            0,
+            20,
+            0,
+        ),
+        refused(To::Second, &[2, 0, 1, 2, 1, 0, 1, 172, 2, 7], 0, 12, 9),
+        // The reader's, before 20.
+        refused(To::First, &[0, 2, 0, 1, 1, 1, 2, 0, 0, 1, 4], 0, 3, 1),
+        refused(To::Second, &[], 0, 10, 0),
+    ]
+}
 
 /// The net whose record is the longest: 256 posts, source 255, every ratio
 /// 10,000/10,000 and 2,048 segments of seven bytes. Posts below 128 have no

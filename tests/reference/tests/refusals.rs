@@ -9,8 +9,19 @@ use std::path::{Path, PathBuf};
 
 use reference::worked::{net_a, two_posts};
 use reference::{
-    build, drawn_length, margin, read, read_into, write_into, Refusal, Run, Segment, Tree,
+    build, drawn_length, margin, moved, read, read_into, write_into, Refusal, Run, Segment, To,
+    Tree,
 };
+
+/// The numbers that can be given: document 01's, and those of the requests that
+/// have landed.
+fn given() -> BTreeSet<u32> {
+    (1..=20).chain([30]).collect()
+}
+
+/// The last number of document 02, which the crates' definitions have as the
+/// greatest.
+const GREATEST: u32 = 32;
 
 /// A refusal as some text has it; its name in words, as `post count`.
 #[derive(Debug, PartialEq, Eq)]
@@ -165,13 +176,13 @@ impl Texts {
         let Some(mut table) = in_table(&self.rules) else {
             return Some("the table has a row that can't be read");
         };
-        if !table.iter().map(|row| row.number).eq(1..=19) {
-            return Some("the table's numbers aren't 1 to 19");
+        if !table.iter().map(|row| row.number).eq(given()) {
+            return Some("the table's numbers aren't those that can be given");
         }
-        if in_code(&self.code) != (1..=19).collect() {
+        if in_code(&self.code) != given() {
             return Some("the crates' code gives other numbers");
         }
-        if greatest_in_specs(&self.specs) != Some(19) {
+        if greatest_in_specs(&self.specs) != Some(GREATEST) {
             return Some("the crates' definitions have another greatest number");
         }
         if in_header(&self.header).as_ref() != Some(&table) {
@@ -241,6 +252,12 @@ fn whatever_differs_from_the_table_shows() {
         ),
         (lists, &format!("{lists}\n{lists}")),
         ("| 19 | no such", "| 20 | no such"),
+        ("| 20 | other ratio", "| 21 | other ratio"),
+        ("| 30 | same form", "| 31 | same form"),
+        (
+            "house p or q | the lowest such post |",
+            "house p or q | 0 |",
+        ),
     ] {
         wrong(|texts| &mut texts.rules, old, new);
     }
@@ -250,6 +267,8 @@ fn whatever_differs_from_the_table_shows() {
         ("    DROVER_SAME_ENDS = 6,\n", ""),
         ("isn't finite; place: 0", "isn't finite; place: 1"),
         ("above 256", "above 255"),
+        ("DROVER_OTHER_RATIO = 20", "DROVER_OTHER_RATIO = 21"),
+        ("DROVER_SAME_FORM = 30", "DROVER_SAME_FORM = 21"),
     ] {
         wrong(|texts| &mut texts.header, old, new);
     }
@@ -260,20 +279,24 @@ fn whatever_differs_from_the_table_shows() {
         ("3 Ratio Ratio", "3 Ratio Nothing"),
         ("is 0 or above 256", "is 0 or above 255"),
         ("    18 ShortRoom", "//  18 ShortRoom"),
+        ("20 OtherRatio Post", "20 OtherRatio Nothing"),
+        ("    30 SameForm", "    21 SameForm"),
     ] {
         wrong(|texts| &mut texts.bindings, old, new);
     }
     wrong(
         |texts| &mut texts.specs,
-        "mostNumber = 19",
-        "mostNumber = 18",
+        "mostNumber = 32",
+        "mostNumber = 30",
     );
     let with_code = |code: String| Texts {
         code,
         ..shipped.clone()
     };
-    let one_more = format!("{}return refuse(20, 0);\n", shipped.code);
-    assert!(with_code(one_more).difference().is_some());
+    for more in [21, 29, 31] {
+        let one_more = format!("{}return refuse({more}, 0);\n", shipped.code);
+        assert!(with_code(one_more).difference().is_some());
+    }
     let few = shipped.code.replace("efus", "");
     assert!(with_code(few).difference().is_some());
 }
@@ -326,6 +349,8 @@ fn given_by_the_reference() -> Vec<(Option<Refusal>, u32)> {
         (legs(65_535.937_5, 0.0625), 2),
         (write_into(&two_posts(), &mut [0; 8]).err(), 0),
         (margin(&two_posts(), 2, Tree::Between).err(), 0),
+        (moved(&[0, 3, 0, 1, 1, 0, 1, 1, 2, 2], To::First).err(), 2),
+        (moved(&[1, 0, 1, 1, 0], To::First).err(), 0),
     ]
 }
 

@@ -1,0 +1,4 @@
+-- What is proved of what is handed on.
+pub mod Given
+pub mod Whole
+pub mod Room
