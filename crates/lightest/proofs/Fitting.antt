@@ -1,38 +1,26 @@
 -- A net as lists within the bounds (`Fit`): its segments are `segmentsOf` the lists, their ends are posts, and a list in order by the lengths
--- is in order by `net`'s `before` (`fit-order`, `order-before`). `inside-fit` has it from `net`'s `Inside`. Rests on Segments and Ordering.
+-- is in order by `net`'s (`fit-order`). `inside-fit` has it from `net`'s `Inside`. Rests on Segments and Ordering.
 use mathlib.Core.Path.{_≡_, sym, ap, _∙_}
 use mathlib.Core.Bool.{Bool, true, false}
 use mathlib.Core.List.{List}
 use Prim.Native.Nat.{ℕ, _<_, _≤_}
 use native.Mathlib.Omega.{arith}
 use native.Mathlib.Decide.{decLt}
-use lib.ListN.{length, getD, take, List·getD-eq-default}
-use lib.Seq.{length-take-le}
+use lib.ListN.{length, getD, List·getD-eq-default}
 use Rattle.net.specs.Words.{noSegment}
-use Rattle.net.specs.Net.{segmentsOf, segmentAt, lengthAt, before}
-use Rattle.net.specs.Trees.{noneYet, belonging}
+use Rattle.net.specs.Net.{segmentsOf, segmentAt, lengthAt}
+use Rattle.net.specs.Trees.{noneYet}
 use Rattle.net.specs.declared.Segment.{Segment}
 use Rattle.net.proofs.Words.{clash}
 use Rattle.net.proofs.Least.{Inside}
-use Rattle.net.proofs.Belongs.{says-before}
-use Rattle.lightest.specs.Order.{lengthIn, orderOf, InOrder}
+use Rattle.lightest.specs.Order.{lengthIn, InOrder}
 use Rattle.lightest.specs.Marks.{there, Ends, Fit}
-use Rattle.lightest.proofs.Ordering.{in-order-same, in-order-at, order-in-order}
+use Rattle.lightest.proofs.Ordering.{in-order-same}
 use Rattle.net.proofs.Segments.{length-segments, segments-at}
 
 -- the number of posts under another name
 pub ends-of : {k n : ℕ} {a b : List ℕ} {present : List Bool} → k ≡ n → Ends n a b present → Ends k a b present
 ends-of e z = rw e z
-
--- an entry of the front of an array z for each post
-module _ {n : ℕ} {a b lengths : List ℕ} {present : List Bool} (fit : Fit n a b lengths present) (z : List ℕ) (room : n ≤ length z) where
-  -- it fits
-  pub front-fit : Fit (length (take n z)) a b lengths present
-  front-fit = rw (length-take-le n z room) fit
-
-  -- and is marked, as many posts
-  pub front-marks : (marks : List Bool) → marks ≡ belonging (segmentsOf a b lengths) (there present) (length (take n z)) → marks ≡ belonging (segmentsOf a b lengths) (there present) n
-  front-marks marks e = e ∙ ap (belonging (segmentsOf a b lengths) (there present)) (length-take-le n z room)
 
 module _ {n : ℕ} {a b lengths : List ℕ} {present : List Bool} (fit : Fit n a b lengths present) where
   -- its segments

@@ -1,15 +1,14 @@
 -- Renaming labels: one label becomes another everywhere, and the two parts are one (`renamed-joins`). Joining goes both ways (`joined-swap`),
--- and which posts then share a part is determined (`joined-unique`). Rests on Blend.
+-- and which posts then share a part is determined (`joined-unique`). Rests on nothing of ours but the definitions.
 use mathlib.Core.Path.{_≡_, refl, sym, ap, _∙_}
 use mathlib.Core.Bool.{Bool, true, false, _&&_, _||_, cond}
 use mathlib.Core.List.{List, [], _∷_, map}
-use Prim.Native.Nat.{ℕ, zero, suc, _+_, _<_}
+use Prim.Native.Nat.{ℕ, zero, suc, _<_}
 use native.Mathlib.Omega.{arith}
-use lib.ListN.{length, getD, set, length-map}
+use lib.ListN.{length, getD, length-map}
 use lib.Dec.{eqb}
 use borrow.Author.Tests.{eq-eqb, ne-eqb, eqb-true, eqb-false}
-use Rattle.net.proofs.Blend.{Over, over-at, over-more, over-keep}
-use Rattle.lightest.specs.Parts.{share, renamed, JoinedParts}
+use Rattle.lightest.specs.Parts.{share, renamed, JoinedParts, renamedTo}
 
 -- a list changed entry by entry
 pub map-at : (f : ℕ → ℕ) (l : List ℕ) (i : ℕ) → i < length l → getD (map f l) i 0 ≡ f (getD l i 0)
@@ -18,26 +17,16 @@ map-at f (x ∷ l) zero h = refl
 map-at f (x ∷ l) (suc i) h = map-at f l i (omega arith)
 
 -- what renaming does to one label
-renamed-same : (from to x : ℕ) → x ≡ from → renamed from to x ≡ to
+pub renamed-same : (from to x : ℕ) → x ≡ from → renamed from to x ≡ to
 unfolding renamed
 renamed-same from to x h = rw (eq-eqb _ _ h)
 
-renamed-other : (from to x : ℕ) → (x ≡ from → ⊥) → renamed from to x ≡ x
+pub renamed-other : (from to x : ℕ) → (x ≡ from → ⊥) → renamed from to x ≡ x
 unfolding renamed
 renamed-other from to x h = rw (ne-eqb _ _ h)
 
--- A TURN of the loop that renames
-module _ {i : ℕ} {l₀ l : List ℕ} (from to : ℕ) (o : Over l₀ (map (renamed from to) l₀) l i) (h : i < length l₀) where
-  -- the entry is `from`, and `to` is stored
-  pub rename-hit : getD l i 0 ≡ from → Over l₀ (map (renamed from to) l₀) (set l i to) (i + 1)
-  rename-hit q = over-more o h to (sym (map-at (renamed from to) l₀ i h ∙ renamed-same from to _ (sym (over-at o) ∙ q)))
-
-  -- it is another, and stays
-  pub rename-miss : (getD l i 0 ≡ from → ⊥) → Over l₀ (map (renamed from to) l₀) l (i + 1)
-  rename-miss q = over-keep o h (sym (map-at (renamed from to) l₀ i h ∙ renamed-other from to _ (λ z. q (over-at o ∙ z))))
-
 -- THE TWO PARTS ARE ONE
-eqb-sym : (x y : ℕ) → eqb x y ≡ eqb y x
+pub eqb-sym : (x y : ℕ) → eqb x y ≡ eqb y x
 eqb-sym x y = go (eqb x y) refl
   where
     go : (t : Bool) → eqb x y ≡ t → t ≡ eqb y x
@@ -80,7 +69,7 @@ renamed-below k u v p h g = go (eqb p v)
 
 -- v's label becomes u's: the parts of u and v are one
 pub renamed-joins : (old : List ℕ) (u v : ℕ) (new : List ℕ) → u < length old → v < length old
-    → new ≡ map (renamed (getD old v 0) (getD old u 0)) old → JoinedParts old u v new
+    → new ≡ renamedTo old u v → JoinedParts old u v new
 renamed-joins old u v new hu hv e =
     record {
       one-each = size;

@@ -10,7 +10,7 @@ use Rattle.net.specs.Words.{noSegment}
 use Rattle.net.specs.Net.{segmentsOf}
 use Rattle.net.specs.Trees.{belonging}
 use Rattle.lightest.specs.Order.{lengthIn, InOrder}
-use Rattle.lightest.specs.Parts.{share, Apart, JoinedParts}
+use Rattle.lightest.specs.Parts.{share, JoinedParts}
 
 -- segment i is there
 abbrev pub there : List Bool → ℕ → Bool
@@ -47,11 +47,16 @@ Marking n a b present numbers marks =
     (lengths : List ℕ) → Fit n a b lengths present → InOrder (lengthIn lengths) (length lengths) numbers → marks
     ≡ belonging (segmentsOf a b lengths) (there present) n
 
--- what marking starts from: a mark for each segment, a part of its own for each post, and numbers of segments
-pub record Markable (a b : List ℕ) (present : List Bool) (numbers labels : List ℕ) (marks : List Bool) : Type 0 where
+-- what marking starts from: a mark for each segment, numbers of segments, and lists lent to work in, with an entry for
+-- each post; each of the counts is 1
+pub record Markable (a b : List ℕ) (present : List Bool) (numbers labels next counts : List ℕ) (marks : List Bool)
+    : Type 0 where
   pub ends : Ends (length labels) a b present
+  pub few-posts : length labels ≤ noSegment
+  pub one-next : length next ≡ length labels
+  pub one-count : length counts ≡ length labels
+  pub all-one : (x : ℕ) → x < length labels → getD counts x 0 ≡ 1
   pub one-mark : length marks ≡ length a
-  pub apart : Apart labels
   pub are-segments : (k : ℕ) → k < length numbers → getD numbers k 0 < length a
 
 -- lists lent to work in, and the marks: an entry for each of m segments
