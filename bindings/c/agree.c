@@ -134,7 +134,8 @@ static void margin(void) {
 static void drawn(void) {
     uint64_t nothing = bits(0.0);
     expect(drover_drawn(0, bits(12.5), nothing) == 200, "12.5 drawn");
-    expect(drover_drawn(0, bits(0.1), nothing) == (DROVER_REFUSED | refusal(DROVER_NOT_SIXTEENTHS, 0)), "0.1 drawn");
+    expect(drover_drawn(0, bits(0.1), nothing) == 2, "0.1 drawn");
+    expect(drover_drawn(1, bits(0.1), bits(0.1)) == 4, "a corner of 0.1 and 0.1 drawn");
     expect(drover_drawn(1, bits(10.0), bits(2.5)) == 200, "a corner drawn");
     expect(drover_drawn(1, bits(65535.9375), bits(0.0625)) == (DROVER_REFUSED | refusal(DROVER_TOO_LONG, 2)),
            "too long a corner drawn");

@@ -76,10 +76,11 @@ enum drover_refusal {
     DROVER_BELOW_ZERO = 14,
     /* a drawn length is zero, of either sign; place: 0, the second leg 1 */
     DROVER_ZERO = 15,
-    /* a drawn length isn't a multiple of 1/16 mm; place: 0, the second leg 1 */
+    /* no longer given: a drawn length is rounded up to a whole sixteenth;
+     * place: 0, the second leg 1 */
     DROVER_NOT_SIXTEENTHS = 16,
-    /* a drawn length, or both legs together, is above 65,535.9375 mm; place: 0,
-     * the second leg 1, both together 2 */
+    /* a drawn length rounded up, or both legs together, is above 65,535.9375 mm;
+     * place: 0, the second leg 1, both together 2 */
     DROVER_TOO_LONG = 17,
     /* the room for the written record is too short; place: 0 */
     DROVER_SHORT_ROOM = 18,
@@ -176,10 +177,12 @@ uint64_t drover_margin(const uint8_t *record, size_t record_length,
                        uint32_t tree, uint32_t post,
                        int64_t *out, size_t out_length);
 
-/* Turns a drawn run into sixteenths of a millimetre. The run is straight if
- * `corner` is 0, and its second length is then not looked at; else it is a
- * corner with two legs. Lengths are given by the bits of a double, millimetres.
- * Answers the length, or DROVER_REFUSED and the refusal (13 to 17). */
+/* Turns a drawn run into sixteenths of a millimetre, each length rounded up to
+ * the next whole one. The run is straight if `corner` is 0, and its second
+ * length is then not looked at; else it is a corner with two legs. Lengths are
+ * given by the bits of a double, millimetres. Answers the length, at least 16
+ * times the exact one and less than 1 above it, of a corner less than 2; or
+ * DROVER_REFUSED and the refusal (13, 14, 15 or 17). */
 uint64_t drover_drawn(uint32_t corner, uint64_t first_bits, uint64_t second_bits);
 
 #ifdef __cplusplus

@@ -183,17 +183,20 @@ pub fn margin(record: &[u8], tree: Tree, post: u32) -> Result<i64, Refusal> {
     Ok(out[0])
 }
 
-/// The length of a drawn run in sixteenths of a millimetre, exactly.
+/// The length of a drawn run in sixteenths of a millimetre, each leg rounded up
+/// to the next whole one: at least 16 times the exact length and less than 1
+/// above it, of a corner less than 2.
 ///
 /// # Errors
-/// Numbers 13 to 17; the place says which leg, or 2 for both together.
+/// Numbers 13, 14, 15 and 17; the place says which leg, or 2 for both together.
 ///
 /// ```
 /// use droverboot::{drawn, Reason, Run};
 ///
 /// assert_eq!(drawn(Run::Straight(12.5)), Ok(200));
-/// let refusal = drawn(Run::Straight(0.1)).unwrap_err();
-/// assert_eq!(refusal.reason, Reason::NotSixteenths);
+/// assert_eq!(drawn(Run::Straight(0.1)), Ok(2));
+/// let refusal = drawn(Run::Straight(65_535.95)).unwrap_err();
+/// assert_eq!(refusal.reason, Reason::TooLong);
 /// ```
 pub fn drawn(run: Run) -> Result<u32, Refusal> {
     let answer = match run {

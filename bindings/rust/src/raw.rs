@@ -132,7 +132,7 @@ pub fn margin(record: &[u8], tree: u32, post: u32, out: &mut [i64]) -> u64 {
     }
 }
 
-/// Turns a drawn run into sixteenths of a millimetre: the length, or
+/// Turns a drawn run into sixteenths of a millimetre, rounded up: the length, or
 /// [`REFUSED`] and the refusal. The run is straight if `corner` is 0, and then
 /// has no second length; lengths are given by the bits of an f64.
 pub fn drawn(corner: u32, first_bits: u64, second_bits: u64) -> u64 {

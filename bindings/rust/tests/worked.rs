@@ -269,8 +269,9 @@ fn drawn_runs() {
     assert_eq!(straight(65_535.937_5), Ok(MOST_LENGTH));
     assert_eq!(straight(0.0625), Ok(1));
     assert_eq!(straight(65_536.0), refused(Reason::TooLong, 0));
-    assert_eq!(straight(0.031_25), refused(Reason::NotSixteenths, 0));
-    assert_eq!(straight(0.1), refused(Reason::NotSixteenths, 0));
+    assert_eq!(straight(65_535.95), refused(Reason::TooLong, 0));
+    assert_eq!(straight(0.031_25), Ok(1));
+    assert_eq!(straight(0.1), Ok(2));
     for length in [f64::NAN, f64::INFINITY, f64::NEG_INFINITY] {
         assert_eq!(straight(length), refused(Reason::NotFinite, 0));
     }
@@ -283,6 +284,8 @@ fn drawn_runs() {
 fn drawn_corners() {
     let corner = |first, second| drawn(Run::Corner(first, second));
     assert_eq!(corner(10.0, 2.5), Ok(200));
+    assert_eq!(corner(0.1, 0.1), Ok(4));
+    assert_eq!(corner(0.031_25, 0.031_25), Ok(2));
     assert_eq!(corner(65_535.937_5, 0.0625), refused(Reason::TooLong, 2));
     assert_eq!(corner(1.0, f64::NAN), refused(Reason::NotFinite, 1));
     assert_eq!(corner(0.0, f64::NAN), refused(Reason::Zero, 0));

@@ -1,7 +1,7 @@
--- THE NUMBERS OF THE REFUSALS that the functions for C give are those that document 01 or a request that has landed gives (`givenNumbers`): `check-listed`, `plan-listed`,
--- `rewrite-listed`, `move-listed`, `margin-listed`, `drawn-listed`. So a packed refusal is never 0 (`packed-not-zero`), and a marked one has 64 bits (`markable`). Rests on the
--- rules of every entry; what is read are bytes.
-use mathlib.Core.Path.{_≡_, refl, subst}
+-- THE NUMBERS OF THE REFUSALS that the functions for C give are those that document 01 or a request that has landed gives (`givenNumbers`), 16 no longer among them:
+-- `check-listed`, `plan-listed`, `rewrite-listed`, `move-listed`, `margin-listed`, `drawn-listed`. So a packed refusal is never 0 (`packed-not-zero`), and a marked one has
+-- 64 bits (`markable`). Rests on the rules of every entry; what is read are bytes.
+use mathlib.Core.Path.{_≡_, refl, ap}
 use mathlib.Core.Bool.{Bool, true, _&&_}
 use mathlib.Core.Logic.{_⊎_, inl, inr}
 use mathlib.Core.List.{List, [], _∷_}
@@ -11,7 +11,6 @@ use native.Mathlib.Omega.{arith}
 use native.Mathlib.Decide.{decLt}
 use lib.Dec.{eqb, leb}
 use lib.ListN.{length}
-use lib.Ieee.{Float}
 use borrow.Author.Tests.{eqb-true, leb-true}
 use Rattle.net.proofs.Words.{and-left, and-right, or-cases}
 use Rattle.net.specs.Net.{Net, every, mostPosts, mostSegments}
@@ -42,12 +41,11 @@ use Rattle.reading.specs.Answers.{checkRead}
 use Rattle.on_records.specs.Asked.{recordRead, plannedWith, planOf, rewriteOf, marginSaid, marginRead}
 use Rattle.on_records.specs.declared.PlanAnswer.the-variants.{Refused as Unplanned}
 use Rattle.drawn.specs.Drawn.{drawnOf}
-use Rattle.drawn.specs.Says as S
-use Rattle.drawn.specs.Rules.{Means, not-a-number, infinite, below-zero, is-zero, no-multiple, too-long, good as sound, Answers, straight, first-refused, second-refused, together, corner}
+use Rattle.drawn.specs.Says.{saysOf}
+use Rattle.drawn.specs.Rules.{RefusedWith}
 use Rattle.drawn.specs.declared.Run.{Run}
-use Rattle.drawn.specs.declared.Answer.{Answer}
 use Rattle.drawn.specs.declared.Answer.the-variants.{Refused as Undrawn}
-use Rattle.drawn.proofs.Rules.{drawn-answers}
+use Rattle.drawn.proofs.Rules.{drawn-refused-with}
 use Rattle.moves.specs.Moves.{moveOf}
 use Rattle.moves.specs.Rules.{NetRule, MoveRule}
 use Rattle.moves.proofs.Ruled.{move-answers}
@@ -220,26 +218,19 @@ module _ (bytes : List ℕ) (all : Bytes bytes) {r : Refusal} where
       go (got n next) h e = margin-refusal n (length (n .segments)) mostPosts post (by n (marginRefusal every n (length (n .segments)) mostPosts post) e)
       go (refused q) h e = let z : q ≡ r = cc in rw (← z) h
 
--- A DRAWN RUN
-abbrev ListedSaid : S.Says → Type 0
-ListedSaid (S.sixteenths k) = Unit
-ListedSaid (S.refused n p) = InTable n
-
-means-listed : {p : ℕ} {x : Float} {s : S.Says} → Means p x s → ListedSaid s
-means-listed not-a-number = refl
-means-listed infinite = refl
-means-listed (below-zero h) = refl
-means-listed (is-zero h) = refl
-means-listed (no-multiple h) = refl
-means-listed (too-long k h l) = refl
-means-listed (sound h k l) = tt
-
-answers-listed : {r : Run} {s : S.Says} → Answers r s → ListedSaid s
-answers-listed (straight m) = means-listed m
-answers-listed (first-refused m) = means-listed m
-answers-listed (second-refused m n) = means-listed n
-answers-listed (together m n l) = refl
-answers-listed (corner m n l) = tt
+-- A DRAWN RUN: 13, 14, 15 or 17
+refused-listed : {n : ℕ} → RefusedWith n → InTable n
+refused-listed {n} = go n
+  where
+    go : (n : ℕ) → RefusedWith n → InTable n
+    go zero h = absurd (omega arith)
+    go (suc n) h = elim (decLt n 15) [
+      | yes l ↦ first-listed 15 refl n l
+      | no l ↦ elim (decLt 15 n) [
+        | yes m ↦ let z : n ≡ 16 = omega arith in rw z
+        | no m ↦ absurd (h .2 (omega arith))
+      ]
+    ]
 
 pub drawn-listed : (run : Run) {r : Refusal} → drawnOf run ≡ Undrawn r → InTable (r .number)
-drawn-listed run e = subst (λ (a : Answer). ListedSaid (S.saysOf a)) e (answers-listed (drawn-answers run))
+drawn-listed run e = refused-listed (drawn-refused-with run (ap saysOf e))

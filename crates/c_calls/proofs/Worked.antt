@@ -56,5 +56,7 @@ numbers-worked =
       margin-own-between = refl;
       margin-own-above = refl;
       drawn-good = refl;
+      drawn-rounded = refl;
+      drawn-legs-rounded = refl;
       drawn-long = refl;
     }

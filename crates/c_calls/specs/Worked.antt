@@ -79,6 +79,9 @@ pub record NumbersWorked : Type 0 where
   pub margin-own-below : marginsOf (marginRead mixed (treeNamed 0) 3) ≡ negsuc 6 ∷ []
   pub margin-own-between : marginsOf (marginRead mixed (treeNamed 2) 3) ≡ pos 0 ∷ []
   pub margin-own-above : marginsOf (marginRead mixed (treeNamed 0) 1) ≡ pos 28 ∷ []
-  -- DRAWN: 12.5 gives 200; the second leg of a corner, 65,536, is refused with 17 at place 1, 2^63 + 17 × 2^32 + 1
+  -- DRAWN: 12.5 gives 200; 0.1 is rounded up to 2, and a corner of two such to 4; the second leg of a corner, 65,536,
+  -- is refused with 17 at place 1, 2^63 + 17 × 2^32 + 1
   pub drawn-good : drawnNumber (drawnOf (runNamed 0 4623226492472524800 0)) ≡ 200
+  pub drawn-rounded : drawnNumber (drawnOf (runNamed 0 4591870180066957722 0)) ≡ 2
+  pub drawn-legs-rounded : drawnNumber (drawnOf (runNamed 1 4591870180066957722 4591870180066957722)) ≡ 4
   pub drawn-long : drawnNumber (drawnOf (runNamed 1 4623226492472524800 4679240012837945344)) ≡ 9223372109869219841

@@ -17,9 +17,9 @@ use Rattle.drawn.specs.declared.Run.the-variants.{Straight, Corner}
 abbrev pub mostNumber : ℕ
 mostNumber = 32
 
--- the numbers that document 01 or a request that has landed gives
+-- the numbers that document 01 or a request that has landed gives; 16 is no longer given
 abbrev pub givenNumbers : List ℕ
-givenNumbers = 1 ∷ 2 ∷ 3 ∷ 4 ∷ 5 ∷ 6 ∷ 7 ∷ 8 ∷ 9 ∷ 10 ∷ 11 ∷ 12 ∷ 13 ∷ 14 ∷ 15 ∷ 16 ∷ 17 ∷ 18 ∷ 19 ∷ 20 ∷ 30 ∷ []
+givenNumbers = 1 ∷ 2 ∷ 3 ∷ 4 ∷ 5 ∷ 6 ∷ 7 ∷ 8 ∷ 9 ∷ 10 ∷ 11 ∷ 12 ∷ 13 ∷ 14 ∷ 15 ∷ 17 ∷ 18 ∷ 19 ∷ 20 ∷ 30 ∷ []
 
 -- n is one of a list
 abbrev pub oneOf : List ℕ → ℕ → Bool

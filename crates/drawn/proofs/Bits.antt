@@ -1,4 +1,4 @@
--- The six ways through the code of `leg_of_bits`, each as a law about the float whose bit pattern is b, in the code's own masks and
+-- The eight ways through the code of `leg_of_bits`, each as a law about the float whose bit pattern is b, in the code's own masks and
 -- shift. Rests on Fields. Assumes nothing.
 use mathlib.Core.Path.{_≡_, refl, sym, ap, _∙_, subst}
 use mathlib.Core.Bool.{Bool, true, false}
@@ -15,7 +15,7 @@ use Rattle.drawn.specs.Drawn.{most, legOf}
 use Rattle.drawn.specs.declared.Leg.{Leg}
 use Rattle.drawn.specs.declared.Leg.the-variants.{Sixteenths, Refuse}
 use Rattle.drawn.proofs.Zeros.{zeros-lt}
-use Rattle.drawn.proofs.Fields.{lead-pos, fields-not-finite, fields-below-zero, fields-zero, fields-no-multiple, fields-too-long, fields-good, shifted-most}
+use Rattle.drawn.proofs.Fields.{lead-pos, lead-lt, fields-not-finite, fields-below-zero, fields-zero, fields-too-long, fields-under-one, fields-whole, fields-past, fields-more, shifted-most}
 
 -- the pattern without its sign, its exponent's field, its digits, the significand and the zeros at its end
 abbrev pub sizeOf : ℕ → ℕ
@@ -32,6 +32,10 @@ significandOf b = 2 ^ 52 + digitsOf b
 
 abbrev pub zerosOf : ℕ → ℕ
 zerosOf b = trailingZeros 64 (significandOf b)
+
+-- what is left of the significand when it is shifted to count sixteenths
+abbrev pub wholeOf : ℕ → ℕ
+wholeOf b = significandOf b / 2 ^ (1071 - fieldOf b)
 
 -- the pattern b stands for the leg l
 abbrev pub BitsAre : ℕ → Leg → Type 0
@@ -54,9 +58,6 @@ field-of-size n h = omega arith
 
 pub field-lt : (b : ℕ) → fieldOf b < 2048
 field-lt b = field-of-size (sizeOf b) (mask-lt b 63)
-
-lead-lt : (t : ℕ) → t < 2 ^ 52 → 2 ^ 52 + t < 2 ^ 53
-lead-lt t h = omega arith
 
 pub zeros-few : (b : ℕ) → zerosOf b < 53
 zeros-few b = zeros-lt 64 (significandOf b) 53 (lead-pos (digitsOf b)) (lead-lt (digitsOf b) (digits-lt b))
@@ -82,7 +83,7 @@ under-sign b n e h k = omega arith
 ne-pos : (n : ℕ) → (n ≡ 0 → ⊥) → 0 < n
 ne-pos n f = omega arith
 
--- ---- the six ways
+-- ---- the eight ways
 
 pub bits-not-finite : (b : ℕ) → fieldOf b ≡ 2047 → BitsAre b (Refuse 13)
 bits-not-finite b e =
@@ -102,18 +103,23 @@ module _ (b : ℕ) (n : fieldOf b ≡ 2047 → ⊥) (h : b ≤ 2 ^ 63) (z : size
   plain : legOf (ofBits binary64 b) ≡ legOf (ofFields binary64 false (fieldOf b) (digitsOf b))
   plain = ap legOf (bits-fields false b (lt-leb (2 ^ 63) b (under-sign b (sizeOf b) (and-mask b 63) h z)))
 
-  finite : fieldOf b < 2047
-  finite = not-top (fieldOf b) (field-lt b) n
+  pub bits-too-long : 1039 ≤ fieldOf b → BitsAre b (Refuse 17)
+  bits-too-long l = plain ∙ fields-too-long (fieldOf b) (digitsOf b) (not-top (fieldOf b) (field-lt b) n) l
 
-  pub bits-no-multiple : fieldOf b + zerosOf b < 1071 → BitsAre b (Refuse 16)
-  bits-no-multiple k = plain ∙ fields-no-multiple (fieldOf b) (digitsOf b) finite (digits-lt b) (fields-pos b (ne-pos (sizeOf b) z)) k
+  pub bits-under-one : fieldOf b < 1019 → BitsAre b (Sixteenths 1)
+  bits-under-one l = plain ∙ fields-under-one (fieldOf b) (digitsOf b) (digits-lt b) (fields-pos b (ne-pos (sizeOf b) z)) l
 
-  pub bits-too-long : 1071 ≤ fieldOf b + zerosOf b → 1039 ≤ fieldOf b → BitsAre b (Refuse 17)
-  bits-too-long k l = plain ∙ fields-too-long (fieldOf b) (digitsOf b) finite k l
+  -- from 1/16 mm to less than 65,536 mm
+  module _ (g : 1019 ≤ fieldOf b) (l : fieldOf b < 1039) where
+    pub bits-whole : 1071 ≤ fieldOf b + zerosOf b → BitsAre b (Sixteenths (wholeOf b))
+    bits-whole k = plain ∙ fields-whole (fieldOf b) (digitsOf b) (digits-lt b) g l k
 
-  pub bits-good : 1071 ≤ fieldOf b + zerosOf b → fieldOf b < 1039 → BitsAre b (Sixteenths (significandOf b / 2 ^ (1071 - fieldOf b)))
-  bits-good k l = plain ∙ fields-good (fieldOf b) (digitsOf b) (digits-lt b) k l
+    pub bits-past : fieldOf b + zerosOf b < 1071 → most ≤ wholeOf b → BitsAre b (Refuse 17)
+    bits-past k m = plain ∙ fields-past (fieldOf b) (digitsOf b) (digits-lt b) g l k m
+
+    pub bits-more : fieldOf b + zerosOf b < 1071 → wholeOf b < most → BitsAre b (Sixteenths (wholeOf b + 1))
+    bits-more k m = plain ∙ fields-more (fieldOf b) (digitsOf b) (digits-lt b) g l k m
 
 -- what the shift leaves is at most 65,535.9375 mm in sixteenths, and so fits a u32
-pub shift-most : (b : ℕ) → fieldOf b < 1039 → significandOf b / 2 ^ (1071 - fieldOf b) ≤ most
-shift-most b l = shifted-most (fieldOf b) (digitsOf b) (digits-lt b) l
+pub whole-most : (b : ℕ) → fieldOf b < 1039 → wholeOf b ≤ most
+whole-most b l = shifted-most (fieldOf b) (digitsOf b) (digits-lt b) l

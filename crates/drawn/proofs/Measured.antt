@@ -1,10 +1,10 @@
--- A leg by its value alone: `measured` at each of its cases, and at two fractions that are equal. Rests on `lib.Ieee`'s `HasValue`.
--- `Fields` and `Rules` cite it. Assumes nothing.
-use mathlib.Core.Path.{_≡_, refl, sym, ap, _∙_}
+-- A leg by its value alone: `upTo` in the words of `RoundsTo`, `measured` at each of its cases, and at two fractions that are equal.
+-- Rests on `lib.Ieee`'s `HasValue`. `Fields` and `Rules` cite it. Assumes nothing.
+use mathlib.Core.Path.{_≡_, refl, sym, ap, _∙_, subst}
 use mathlib.Core.Logic.{inl, inr}
 use mathlib.Core.Bool.{Bool, true, false}
 use Prim.Native.Nat.{ℕ, _+_, _*_, _/_, _%_, _≤_, _<_}
-use native.Mathlib.Nat.{mul-assoc, mul-right-comm, mul-pos, mul-mod-left, div-add-mod', eq-zero-or-pos, zero-mul, eq-of-mul-eq-mul-right, add-zero}
+use native.Mathlib.Nat.{mul-assoc, mul-right-comm, mul-pos, mul-mod-left, div-add-mod', mod-lt, lt-of-mul-lt-mul-right, eq-zero-or-pos, zero-mul, eq-of-mul-eq-mul-right, add-zero}
 use native.Mathlib.Omega.{arith}
 use lib.Dec.{ltb, eqb}
 use lib.Ieee.{Float, nan, inf, fin, up, down}
@@ -12,7 +12,7 @@ use lib.Ieee.Fits.{down-pos}
 use lib.Ieee.Exact.{HasValue}
 use lib.Ieee.Nearest.{div-same}
 use borrow.Author.Tests.{lt-ltb, le-ltb, ne-eqb}
-use Rattle.drawn.specs.Drawn.{most, measured, legOf}
+use Rattle.drawn.specs.Drawn.{most, upTo, measured, legOf}
 use Rattle.drawn.specs.declared.Leg.the-variants.{Sixteenths, Refuse}
 
 -- ---- each case
@@ -27,17 +27,54 @@ measured-zero false d = refl
 pub pos-ne : (n : ℕ) → 0 < n → n ≡ 0 → ⊥
 pos-ne n h e = omega arith
 
-pub measured-no-multiple : (n d : ℕ) → 0 < n → 0 < n % d → measured false n d ≡ Refuse 16
-measured-no-multiple n d h r = simp (ne-eqb n 0 (pos-ne n h), lt-ltb 0 (n % d) r)
+pub measured-too-long : (n d : ℕ) → 0 < n → most < upTo n d → measured false n d ≡ Refuse 17
+measured-too-long n d h k = simp (ne-eqb n 0 (pos-ne n h), lt-ltb most (upTo n d) k)
+
+pub measured-good : (n d k : ℕ) → 0 < n → upTo n d ≡ k → k ≤ most → measured false n d ≡ Sixteenths k
+measured-good n d k h e l = simp (ne-eqb n 0 (pos-ne n h), e, le-ltb most k l)
+
+-- ---- rounding up
 
 at-zero : (r : ℕ) → r ≡ 0 → r ≤ 0
 at-zero r e = omega arith
 
-pub measured-too-long : (n d : ℕ) → 0 < n → n % d ≡ 0 → most < n / d → measured false n d ≡ Refuse 17
-measured-too-long n d h r k = simp (ne-eqb n 0 (pos-ne n h), le-ltb 0 (n % d) (at-zero (n % d) r), lt-ltb most (n / d) k)
+-- nothing is left over
+pub up-whole : (n d : ℕ) → n % d ≡ 0 → upTo n d ≡ n / d
+up-whole n d r = simp (le-ltb 0 (n % d) (at-zero (n % d) r)) (add-zero (n / d))
 
-pub measured-good : (n d k : ℕ) → 0 < n → n % d ≡ 0 → n / d ≡ k → k ≤ most → measured false n d ≡ Sixteenths k
-measured-good n d k h r e l = simp (ne-eqb n 0 (pos-ne n h), le-ltb 0 (n % d) (at-zero (n % d) r), e, le-ltb most k l)
+-- something is
+pub up-more : (n d : ℕ) → 0 < n % d → upTo n d ≡ n / d + 1
+up-more n d r = simp (lt-ltb 0 (n % d) r)
+
+pub up-ge : (n d : ℕ) → n / d ≤ upTo n d
+up-ge n d = omega arith
+
+-- n rounded up to a multiple of d is at least n, and less than d above it
+pub up-bounds : (n d : ℕ) → 0 < d → (n ≤ upTo n d * d) × (upTo n d * d < n + d)
+up-bounds n d D =
+    let q = n / d in
+    let r = n % d in
+    let e : q * d + r ≡ n = div-add-mod' n d in
+    let s : r < d = mod-lt n D in
+    elim (eq-zero-or-pos r) [
+      | inl z ↦ subst (λ (y : ℕ). (n ≤ y * d) × (y * d < n + d)) (sym (up-whole n d z)) (omega arith, omega arith)
+      | inr p ↦ subst (λ (y : ℕ). (n ≤ y * d) × (y * d < n + d)) (sym (up-more n d p)) (omega arith, omega arith)
+    ]
+
+same-number : (a b : ℕ) → a < b + 1 → b < a + 1 → a ≡ b
+same-number a b h k = omega arith
+
+-- and no other multiple is
+pub up-only : (n d k : ℕ) → 0 < d → n ≤ k * d → k * d < n + d → upTo n d ≡ k
+up-only n d k D lo hi =
+    let u = up-bounds n d D in
+    same-number (upTo n d) k (times-under (upTo n d) k (u .1) lo) (times-under k (upTo n d) hi (u .0))
+  where
+    below : (x y : ℕ) → x < n + d → n ≤ y → x < y + d
+    below x y h g = omega arith
+
+    times-under : (a b : ℕ) → a * d < n + d → n ≤ b * d → a < b + 1
+    times-under a b h g = lt-of-mul-lt-mul-right d {m = a} {n = b + 1} (omega (arith, below (a * d) (b * d) h g))
 
 -- ---- only the fraction counts
 

@@ -1,27 +1,27 @@
 -- `drawnOf` says what the rules of `specs/Rules.antt` say: every run has an answer by the rules (`drawn-answers`), and it has no
 -- other (`drawn-only`). So two answers that the rules allow are equal (`same-answer`), and so are two outcomes that the contract of
--- `drawn` allows (`same-outcome`). Rests on Measured. Assumes nothing.
+-- `drawn` allows (`same-outcome`). A refusal has one of four numbers, and not 16 (`drawn-refused-with`). Rests on Measured. Assumes nothing.
 use mathlib.Core.Path.{_≡_, refl, sym, ap, ap₂, _∙_, subst}
 use mathlib.Core.Logic.{_⊎_, inl, inr}
 use mathlib.Core.Bool.{Bool, true, false, not}
-use Prim.Native.Nat.{ℕ, _+_, _*_, _/_, _%_, _≤_, _<_}
-use native.Mathlib.Nat.{mul-pos, zero-mul, mul-mod-left, mul-div-cancel, div-add-mod', add-zero, eq-zero-or-pos, zero-lt-suc}
+use Prim.Native.Nat.{ℕ, _+_, _*_, _≤_, _<_}
+use native.Mathlib.Nat.{mul-pos, zero-mul, mul-le-mul-right, eq-zero-or-pos, zero-lt-suc}
 use native.Mathlib.Omega.{arith}
 use lib.IntN.{ℤ}
 use lib.Dec.{T, leb, leb→le, nleb→lt}
 use lib.Ieee.{Float, nan, inf, fin, up, down}
 use lib.Ieee.Fits.{up-pos, down-pos}
 use borrow.Author.Tests.{le-leb, lt-leb}
-use Rattle.drawn.specs.Drawn.{most, measured, legOf, refusal, straightOf, cornerOf, drawnOf}
+use Rattle.drawn.specs.Drawn.{most, upTo, measured, legOf, refusal, straightOf, cornerOf, drawnOf}
 use Rattle.drawn.specs.Says.{Says, sixteenths, refused, saysOf, legSays}
-use Rattle.drawn.specs.Rules.{AreSixteenths, Means, not-a-number, infinite, below-zero, is-zero, no-multiple, too-long, good, Answers, straight, first-refused, second-refused, together, corner}
+use Rattle.drawn.specs.Rules.{RoundsTo, Means, not-a-number, infinite, below-zero, is-zero, too-long, good, Answers, straight, first-refused, second-refused, together, corner, RefusedWith}
 use Rattle.drawn.specs.declared.Run.{Run}
 use Rattle.drawn.specs.declared.Run.the-variants.{Straight, Corner}
 use Rattle.drawn.specs.declared.Answer.{Answer}
 use Rattle.drawn.specs.declared.Answer.the-variants.{Length, Refused}
 use Rattle.drawn.specs.declared.Leg.{Leg}
 use Rattle.drawn.specs.declared.Leg.the-variants.{Sixteenths, Refuse}
-use Rattle.drawn.proofs.Measured.{pos-ne, measured-below-zero, measured-zero, measured-no-multiple, measured-too-long, measured-good}
+use Rattle.drawn.proofs.Measured.{measured-below-zero, measured-zero, measured-too-long, measured-good, up-bounds, up-only}
 
 le-or-lt : (a b : ℕ) → (a ≤ b) ⊎ (b < a)
 le-or-lt a b = go (leb a b) (leb→le a b) (nleb→lt a b)
@@ -30,7 +30,7 @@ le-or-lt a b = go (leb a b) (leb→le a b) (nleb→lt a b)
     go true f g = inl (f tt)
     go false f g = inr (g tt)
 
--- ---- one leg, m * 2 ^ e millimetres: the quotient and the rest of its sixteenths
+-- ---- one leg, m * 2 ^ e millimetres: its sixteenths, rounded up
 
 module _ (m : ℕ) (e : ℤ) where
   abbrev over : ℕ
@@ -39,37 +39,30 @@ module _ (m : ℕ) (e : ℤ) where
   positive : 0 < m → 0 < over
   positive h = mul-pos (zero-lt-suc 15) (mul-pos h (up-pos e))
 
-  -- where they are k, the quotient is k and nothing is left over
-  quotient : (k : ℕ) → AreSixteenths m e k → over / down e ≡ k
-  quotient k h = ap (λ (y : ℕ). y / down e) h ∙ mul-div-cancel k (down-pos e)
-
-  rest : (k : ℕ) → AreSixteenths m e k → over % down e ≡ 0
-  rest k h = ap (λ (y : ℕ). y % down e) h ∙ mul-mod-left k (down e)
-
-  sixteenths-pos : (k : ℕ) → AreSixteenths m e k → 0 < k → 0 < over
-  sixteenths-pos k h p = subst (λ (y : ℕ). 0 < y) (sym h) (mul-pos p (down-pos e))
-
-  -- where nothing is left over, they are the quotient
-  is-quotient : over % down e ≡ 0 → AreSixteenths m e (over / down e)
-  is-quotient z = sym (div-add-mod' over (down e)) ∙ ap (λ (y : ℕ). over / down e * down e + y) z ∙ add-zero (over / down e * down e)
-
-  -- where something is, they are no whole number
-  rest-pos : 0 < over % down e → (k : ℕ) → AreSixteenths m e k → ⊥
-  rest-pos p k h = pos-ne (over % down e) p (rest k h)
-
-  left-over : ((k : ℕ) → AreSixteenths m e k → ⊥) → 0 < over % down e
-  left-over f = elim (eq-zero-or-pos (over % down e)) [ inl z ↦ absurd (f (over / down e) (is-quotient z)) | inr p ↦ p ]
-
   zero-over : m ≡ 0 → over ≡ 0
   zero-over z = ap (λ (y : ℕ). 16 * y) (ap (λ (y : ℕ). y * up e) z ∙ zero-mul (up e))
 
-  -- no whole number, so not zero
-  none-pos : ((k : ℕ) → AreSixteenths m e k → ⊥) → 0 < m
-  none-pos f = elim (eq-zero-or-pos m) [ inl z ↦ absurd (f 0 (zero-over z ∙ sym (zero-mul (down e)))) | inr p ↦ p ]
+  -- what they are rounded up to is what is computed, and the other way round
+  rounds-only : (k : ℕ) → RoundsTo m e k → upTo over (down e) ≡ k
+  rounds-only k h = up-only over (down e) k (down-pos e) (h .reaches) (h .least)
 
-  quotient-pos : (k : ℕ) → 0 < m → AreSixteenths m e k → 0 < k
-  quotient-pos k p h = elim (eq-zero-or-pos k) [
-    | inl z ↦ absurd (pos-ne over (positive p) (h ∙ ap (λ (y : ℕ). y * down e) z ∙ zero-mul (down e)))
+  rounds-up : RoundsTo m e (upTo over (down e))
+  rounds-up = let b = up-bounds over (down e) (down-pos e) in record { reaches = b .0; least = b .1 }
+
+  too-far : (k : ℕ) → 0 < k → k * down e < over + down e → over ≡ 0 → ⊥
+  too-far k p h z = omega (arith, mul-le-mul-right (down e) p)
+
+  -- a whole number above 0 comes of a length above 0
+  rounded-pos : (k : ℕ) → RoundsTo m e k → 0 < k → 0 < over
+  rounded-pos k h p = elim (eq-zero-or-pos over) [ inl z ↦ absurd (too-far k p (h .least) z) | inr q ↦ q ]
+
+  none : (k : ℕ) → 0 < over → over ≤ k * down e → k * down e ≡ 0 → ⊥
+  none k h g z = omega arith
+
+  -- and a length above 0 is rounded up to one
+  rounds-pos : (k : ℕ) → 0 < m → RoundsTo m e k → 0 < k
+  rounds-pos k p h = elim (eq-zero-or-pos k) [
+    | inl z ↦ absurd (none k (positive p) (h .reaches) (ap (λ (y : ℕ). y * down e) z ∙ zero-mul (down e)))
     | inr q ↦ q
   ]
 
@@ -83,11 +76,10 @@ means-only not-a-number = refl
 means-only infinite = refl
 means-only {p} (below-zero {m} {e} h) = ap (legSays p) (measured-below-zero (over m e) (down e) (positive m e h))
 means-only {p} (is-zero {s} {m} {e} z) = ap (λ (y : ℕ). legSays p (measured s y (down e))) (zero-over m e z) ∙ ap (legSays p) (measured-zero s (down e))
-means-only {p} (no-multiple {m} {e} f) = ap (legSays p) (measured-no-multiple (over m e) (down e) (positive m e (none-pos m e f)) (left-over m e f))
 means-only {p} (too-long {m} {e} k h b) =
     ap (legSays p)
-    (measured-too-long (over m e) (down e) (sixteenths-pos m e k h (most-pos k b)) (rest m e k h) (subst (λ (y : ℕ). most < y) (sym (quotient m e k h)) b))
-means-only {p} (good {m} {e} {k} h q b) = ap (legSays p) (measured-good (over m e) (down e) k (sixteenths-pos m e k h q) (rest m e k h) (quotient m e k h) b)
+    (measured-too-long (over m e) (down e) (rounded-pos m e k h (most-pos k b)) (subst (λ (y : ℕ). most < y) (sym (rounds-only m e k h)) b))
+means-only {p} (good {m} {e} {k} h q b) = ap (legSays p) (measured-good (over m e) (down e) k (rounded-pos m e k h q) (rounds-only m e k h) b)
 
 -- some rule holds of each float
 some-rule : (p : ℕ) (x : Float) → (s : Says) × Means p x s
@@ -96,13 +88,10 @@ some-rule p (inf s) = (_, infinite)
 some-rule p (fin true m e) = elim (eq-zero-or-pos m) [ inl z ↦ (_, is-zero z) | inr q ↦ (_, below-zero q) ]
 some-rule p (fin false m e) = elim (eq-zero-or-pos m) [
   | inl z ↦ (_, is-zero z)
-  | inr q ↦ elim (eq-zero-or-pos (over m e % down e)) [
-    | inr r ↦ (_, no-multiple (rest-pos m e r))
-    | inl r ↦
-        let k = over m e / down e in
-        let h = is-quotient m e r in
-        elim (le-or-lt k most) [ inl b ↦ (_, good h (quotient-pos m e k q h) b) | inr b ↦ (_, too-long k h b) ]
-  ]
+  | inr q ↦
+      let k = upTo (over m e) (down e) in
+      let h = rounds-up m e in
+      elim (le-or-lt k most) [ inl b ↦ (_, good h (rounds-pos m e k q h) b) | inr b ↦ (_, too-long k h b) ]
 ]
 
 pub leg-means : (p : ℕ) (x : Float) → Means p x (legSays p (legOf x))
@@ -152,6 +141,31 @@ run-rule (Corner x y) = corner-rule x y (legSays 0 (legOf x)) (legSays 1 (legOf 
 -- "every run has an answer by the rules", the one that is computed
 pub drawn-answers : (r : Run) → Answers r (saysOf (drawnOf r))
 drawn-answers r = let s = run-rule r in subst (λ (a : Says). Answers r a) (sym (drawn-only (s .1))) (s .1)
+
+-- ---- the numbers of its refusals
+
+abbrev SaysRefusedWith : Says → Type 0
+SaysRefusedWith (sixteenths k) = Unit {0}
+SaysRefusedWith (refused n p) = RefusedWith n
+
+means-refused-with : {p : ℕ} {x : Float} {s : Says} → Means p x s → SaysRefusedWith s
+means-refused-with not-a-number = omega arith
+means-refused-with infinite = omega arith
+means-refused-with (below-zero h) = omega arith
+means-refused-with (is-zero z) = omega arith
+means-refused-with (too-long k h b) = omega arith
+means-refused-with (good h q b) = tt
+
+answers-refused-with : {r : Run} {s : Says} → Answers r s → SaysRefusedWith s
+answers-refused-with (straight a) = means-refused-with a
+answers-refused-with (first-refused a) = means-refused-with a
+answers-refused-with (second-refused a b) = means-refused-with b
+answers-refused-with (together a b h) = omega arith
+answers-refused-with (corner a b h) = tt
+
+-- a run is refused with 13, 14, 15 or 17
+pub drawn-refused-with : (r : Run) {n p : ℕ} → saysOf (drawnOf r) ≡ refused n p → RefusedWith n
+drawn-refused-with r e = subst SaysRefusedWith e (answers-refused-with (drawn-answers r))
 
 -- ---- one answer
 

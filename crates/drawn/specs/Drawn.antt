@@ -1,6 +1,6 @@
 -- What a drawn run comes to, by the values of its floats. Definitions only: the contracts of `drawn` cite `drawnOf`.
 -- A finite float is ±m * 2 ^ e, and 2 ^ e is the fraction up e / down e (`lib.Ieee`). So in sixteenths of a millimetre
--- it is ±16 * m * up e / down e, a fraction of whole numbers: no bits, and nothing is rounded.
+-- it is ±16 * m * up e / down e, a fraction of whole numbers: no bits. Each leg is rounded up once, by `upTo`.
 -- `specs/Rules.antt` says the same as rules, and `specs/Says.antt` reads an answer as document 01's number and place.
 use Prim.Native.Nat.{ℕ, _+_, _*_, _/_, _%_}
 use mathlib.Core.Bool.{Bool, _&&_, cond}
@@ -18,14 +18,17 @@ use Rattle.drawn.specs.declared.Leg.the-variants.{Sixteenths, Refuse}
 abbrev pub most : ℕ
 most = longest
 
+-- n / d rounded up to a whole number, for a d above 0: one more than the quotient where something is left over
+abbrev pub upTo : ℕ → ℕ → ℕ
+upTo n d = n / d + cond (ltb 0 (n % d)) 1 0
+
 -- ±n / d sixteenths, for a d above 0; s is true where the sign is minus.
--- 14 below zero; 15 zero, of either sign; 16 not a multiple of 1/16 mm; 17 above 65,535.9375 mm
+-- 14 below zero; 15 zero, of either sign; any other is rounded up, and 17 where that is above 1,048,575
 abbrev pub measured : Bool → ℕ → ℕ → Leg
 measured s n d =
     cond (s && ltb 0 n) (Refuse 14)
     (cond (eqb n 0) (Refuse 15)
-    (cond (ltb 0 (n % d)) (Refuse 16)
-    (cond (ltb most (n / d)) (Refuse 17) (Sixteenths (n / d)))))
+    (cond (ltb most (upTo n d)) (Refuse 17) (Sixteenths (upTo n d))))
 
 -- one leg: 13 not finite; any other by 16 times its value
 unfoldable pub legOf : Float → Leg

@@ -1,4 +1,5 @@
--- Document 01's rules for a drawn run, one constructor a rule, over the values of its floats. Definitions only.
+-- Document 01's rules for a drawn run, each leg rounded up to a whole sixteenth as change request 04 has it: one
+-- constructor a rule, over the values of the run's floats. Definitions only.
 -- `proofs/Rules.antt` proves that every run has an answer by these rules (`drawn-answers`), and that it has no other
 -- (`drawn-only`): they say what `drawnOf`, which the contract cites, computes.
 use mathlib.Core.Path.{_≡_}
@@ -15,6 +16,21 @@ use Rattle.drawn.specs.declared.Run.the-variants.{Straight, Corner}
 abbrev pub AreSixteenths : ℕ → ℤ → ℕ → Type 0
 AreSixteenths m e k = 16 * (m * up e) ≡ k * down e
 
+-- m * 2 ^ e millimetres rounded up to a whole sixteenth are k: k is at least 16 times that and less than 1 above it,
+-- k - 1 < 16 * m * 2 ^ e ≤ k
+pub record RoundsTo (m : ℕ) (e : ℤ) (k : ℕ) : Type 0 where
+  pub reaches : 16 * (m * up e) ≤ k * down e
+  pub least : k * down e < 16 * (m * up e) + down e
+
+-- 16 times the sum of m * 2 ^ e and n * 2 ^ f, as a fraction over down e * down f
+abbrev pub bothOver : ℕ → ℤ → ℕ → ℤ → ℕ
+bothOver m e n f = 16 * (m * up e) * down f + 16 * (n * up f) * down e
+
+-- k is at least 16 times the sum of m * 2 ^ e and n * 2 ^ f millimetres, and less than 2 above it
+pub record WithinTwo (m : ℕ) (e : ℤ) (n : ℕ) (f : ℤ) (k : ℕ) : Type 0 where
+  pub reaches : bothOver m e n f ≤ k * (down e * down f)
+  pub under : k * (down e * down f) < bothOver m e n f + 2 * (down e * down f)
+
 -- What a drawn length says, as the leg whose place is p.
 pub data Means (p : ℕ) : Float → Says → Type 0 where
   -- 13: "drawn length not finite". "A not-a-number and both infinities"
@@ -24,14 +40,13 @@ pub data Means (p : ℕ) : Float → Says → Type 0 where
   below-zero : {m : ℕ} {e : ℤ} → 0 < m → Means p (fin true m e) (refused 14 p)
   -- 15: "drawn length zero, of either sign"
   is-zero : {s : Bool} {m : ℕ} {e : ℤ} → m ≡ 0 → Means p (fin s m e) (refused 15 p)
-  -- 16: "drawn length not a multiple of 1/16 mm"
-  no-multiple : {m : ℕ} {e : ℤ} → ((k : ℕ) → AreSixteenths m e k → ⊥) → Means p (fin false m e) (refused 16 p)
-  -- 17: "drawn length above 65,535.9375 mm", asked of a multiple since 16 comes before
-  too-long : {m : ℕ} {e : ℤ} (k : ℕ) → AreSixteenths m e k → most < k → Means p (fin false m e) (refused 17 p)
-  -- "The answer is 16 times the length"
-  good : {m : ℕ} {e : ℤ} {k : ℕ} → AreSixteenths m e k → 0 < k → k ≤ most → Means p (fin false m e) (sixteenths k)
+  -- 17: "drawn length above 65,535.9375 mm", "tested on the rounded number"
+  too-long : {m : ℕ} {e : ℤ} (k : ℕ) → RoundsTo m e k → most < k → Means p (fin false m e) (refused 17 p)
+  -- "Round each drawn value up to the next whole sixteenth"
+  good : {m : ℕ} {e : ℤ} {k : ℕ} → RoundsTo m e k → 0 < k → k ≤ most → Means p (fin false m e) (sixteenths k)
 
--- What a run says. "13, 14, 15, 16, 17 for the first leg, then the same five for the second, then the sum."
+-- What a run says: 13, 14, 15, 17 for the first leg, then the same four for the second, then the sum.
+-- "16 is no longer given"
 pub data Answers : Run → Says → Type 0 where
   -- "as straight, with one length": place 0
   straight : {x : Float} {s : Says} → Means 0 x s → Answers (Straight x) s
@@ -46,16 +61,20 @@ pub data Answers : Run → Says → Type 0 where
   corner : {x y : Float} {k l : ℕ} → Means 0 x (sixteenths k) → Means 1 y (sixteenths l) → k + l ≤ most
       → Answers (Corner x y) (sixteenths (k + l))
 
--- x is +m * 2 ^ e millimetres and these are k sixteenths, 1 to 1,048,575
+-- the numbers that a run may be refused with: 13, 14, 15 and 17
+abbrev pub RefusedWith : ℕ → Type 0
+RefusedWith n = (13 ≤ n) × (n ≤ 17) × (n ≡ 16 → ⊥)
+
+-- x is +m * 2 ^ e millimetres and these are rounded up to k sixteenths, 1 to 1,048,575
 pub record Long (x : Float) (k : ℕ) : Type 0 where
   pub m : ℕ
   pub e : ℤ
   pub value : x ≡ fin false m e
-  pub sixteen : AreSixteenths m e k
+  pub rounded : RoundsTo m e k
   pub some : 1 ≤ k
   pub within : k ≤ most
 
--- x and y are so many sixteenths each, and n together, at most 1,048,575
+-- x and y are rounded up to so many sixteenths each, n together, at most 1,048,575
 pub record BothLong (x y : Float) (n : ℕ) : Type 0 where
   pub k : ℕ
   pub l : ℕ

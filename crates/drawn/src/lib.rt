@@ -1,12 +1,13 @@
 // Drawn runs: a run drawn in millimetres becomes a length in sixteenths of a millimetre.
 //
 // A run is straight, with one length, or a corner, with two legs, each an `f64`. `drawn` answers 16
-// times the length, or 16 times each leg, added as whole numbers. Or it refuses, with a number:
-//   13 not finite, 14 below zero, 15 zero, of either sign, 16 not a multiple of 1/16 mm,
-//   17 above 65,535.9375 mm, or the legs together;
+// times the length, rounded up to a whole number, or that of each leg, added as whole numbers. Or it
+// refuses, with a number:
+//   13 not finite, 14 below zero, 15 zero, of either sign,
+//   17 above 1,048,575 sixteenths once rounded, or the legs together;
 // and a place: 0 for the length or the first leg, 1 for the second leg, 2 for the legs together.
 // The first leg is looked at before the second, and the second before the sum. Every `f64` has an
-// answer, and nothing is rounded.
+// answer; 16 is a number of the table that no run is refused with.
 //
 // The contracts speak of the float's value (specs/Drawn.antt, and rule by rule specs/Rules.antt).
 // The code works it out from the bits. Relies on `net` for the refusal's type alone.
@@ -42,10 +43,7 @@ const BELOW_ZERO: u32 = 14;
 // Refusal 15: zero, of either sign.
 const ZERO: u32 = 15;
 
-// Refusal 16: one that is not a multiple of 1/16 mm.
-const NO_MULTIPLE: u32 = 16;
-
-// Refusal 17: one above 65,535.9375 mm, or the legs together.
+// Refusal 17: one above 65,535.9375 mm once rounded, or the legs together.
 const TOO_LONG: u32 = 17;
 
 // 65,535.9375 mm in sixteenths.
@@ -70,13 +68,16 @@ const TOP_FIELD: u64 = 2047;
 // The field at which the significand itself counts sixteenths: 16 * 2 ^ (1071 - 1075) is 1.
 const SIXTEENTHS_FIELD: u64 = 1071;
 
+// The field of 1/16 = 2 ^ (1019 - 1023) mm. A length with a smaller field is below that.
+const ONE_FIELD: u64 = 1019;
+
 // The field of 65,536 = 2 ^ (1039 - 1023) mm, the least multiple of 1/16 mm above 65,535.9375.
 const LONG_FIELD: u64 = 1039;
 
 // The leg whose bit pattern is `bits`. In sixteenths it is significand * 2 ^ (field - 1071), so the
-// zeros at the significand's end together with the field say whether that is a whole number.
-// A subnormal has the field 0 and no leading one. It is below 1/16 mm, and with or without the one
-// the zeros are too few.
+// zeros at the significand's end together with the field say whether that is a whole number; where
+// it isn't, one more than the whole part is. A length below 1/16 mm is rounded up to it: a subnormal
+// too, which has the field 0 and no leading one.
 fn leg_of_bits(bits: u64) -> Leg
     ensures { λ r. ⌜ r ≡ legOf (ofBits binary64 bits) ⌝ }
 {
@@ -93,14 +94,20 @@ fn leg_of_bits(bits: u64) -> Leg
     }
     let significand = LEADING_ONE + (bits & DIGITS);
     let zeros = u64::trailing_zeros(significand) as u64;
-    if field + zeros < SIXTEENTHS_FIELD {
-        return Leg::Refuse(NO_MULTIPLE);
-    }
     if field >= LONG_FIELD {
         return Leg::Refuse(TOO_LONG);
     }
-    let sixteenths = significand >> (SIXTEENTHS_FIELD - field);
-    Leg::Sixteenths(sixteenths as u32)
+    if field < ONE_FIELD {
+        return Leg::Sixteenths(1);
+    }
+    let whole = significand >> (SIXTEENTHS_FIELD - field);
+    if field + zeros >= SIXTEENTHS_FIELD {
+        return Leg::Sixteenths(whole as u32);
+    }
+    if whole >= MOST {
+        return Leg::Refuse(TOO_LONG);
+    }
+    Leg::Sixteenths((whole + 1) as u32)
 }
 
 // One leg. The test is for what is taken: a not-a-number fails it, as it fails every comparison,

@@ -61,7 +61,7 @@ use Rattle.drawn.specs.Says.{sixteenths, refused as undrawn, saysOf as drawnSay
 use Rattle.drawn.specs.Rules.{Answers}
 use Rattle.drawn.specs.declared.Answer.{Answer as Drawn}
 use Rattle.drawn.specs.declared.Answer.the-variants.{Length, Refused as Undrawn}
-use Rattle.drawn.proofs.Rules.{drawn-only, outcome-answers, outcome-only}
+use Rattle.drawn.proofs.Rules.{drawn-only, outcome-answers, outcome-only, drawn-refused-with}
 use Rattle.promises.specs.Demand1.{Refuses, RefusesInNumber, BuildRefuses, MarginRefuses, ReadRefuses, WriteRefuses, CheckRefuses, HandRefuses, OnRecord, by-reading, by-net, Unplanned, Unwritten, Unmoved, Unmeasured, Demand1}
 use Rattle.promises.proofs.Moves.{back-exactly}
 
@@ -410,4 +410,5 @@ demand-1 =
       no-length = no-length-marked;
       drawn = λ w κs x g r e. fact-mono (w .𝓤) _ _ (outcome-answers (x .0) r);
       drawn-no-other = λ w κs x g r e. fact-mono (w .𝓤) _ _ (λ k s. outcome-only (x .0) r s k);
+      no-sixteen = λ w κs x g r e. fact-mono (w .𝓤) _ _ (λ k place h. drawn-refused-with (x .0) (ap drawnSays (sym k) ∙ h) .2 refl);
     }

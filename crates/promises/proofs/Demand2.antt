@@ -35,10 +35,11 @@ use Rattle.margins.proofs.Meaning.{given-accepted, given-below, given-zero, giv
 use Rattle.numbers.specs.Numbers.{got}
 use Rattle.writing.specs.Answers.{result}
 use Rattle.reading.proofs.Longest.{longest-record}
-use Rattle.drawn.specs.Says.{saysOf as drawnSays}
+use Rattle.drawn.specs.Says.{sixteenths, saysOf as drawnSays}
+use Rattle.drawn.specs.declared.Answer.{Answer as Drawn}
 use Rattle.drawn.specs.declared.Answer.the-variants.{Length}
 use Rattle.drawn.proofs.Rules.{same-says}
-use Rattle.drawn.proofs.Lengths.{straight-length, length-straight, corner-length, length-corner}
+use Rattle.drawn.proofs.Lengths.{straight-length, length-straight, corner-length, length-corner, straight-within, corner-within, whole-same}
 use Rattle.printing.proofs.Printing.{answer-lines}
 use Rattle.printing.proofs.Whole.{whole-text}
 use Rattle.moving.proofs.Given.{answer-handing}
@@ -175,9 +176,16 @@ record-margin-as-stated bytes t post is says {n} i =
 pub drawn-as-stated : DrawnAsStated
 drawn-as-stated =
     record {
-      straight = λ x {a} e k. (λ f. straight-length x k (sym e ∙ same-says a (Length k) f), λ f. ap drawnSays (e ∙ length-straight x k f));
-      corner = λ x y {a} e k. (λ f. corner-length x y k (sym e ∙ same-says a (Length k) f), λ f. ap drawnSays (e ∙ length-corner x y k f));
+      straight = λ x {a} e k. (λ f. straight-length x k (is-length a e f), λ f. ap drawnSays (e ∙ length-straight x k f));
+      corner = λ x y {a} e k. (λ f. corner-length x y k (is-length a e f), λ f. ap drawnSays (e ∙ length-corner x y k f));
+      straight-within = λ s m e {a} h k f. straight-within s m e k (is-length a h f);
+      corner-within = λ s t m n e f {a} h k i. corner-within s t m n e f k (is-length a h i);
+      whole-same = λ m e k h q b {a} i. ap drawnSays (i ∙ whole-same m e k h q b);
     }
+  where
+    -- an outcome that says a length is that length
+    is-length : {k : ℕ} (a : Drawn) {b : Drawn} → a ≡ b → drawnSays a ≡ sixteenths k → b ≡ Length k
+    is-length {k} a e f = sym e ∙ same-says a (Length k) f
 
 -- THE PROGRAMS
 pub program-as-stated : ProgramAsStated

@@ -232,3 +232,5 @@ pub record Demand1 : Type 2 where
   -- a drawn run: what an answer says is a length or a refusal with number and place
   pub drawn : Says entry.drawn (λ κs (run, _) a _. Answers run (drawnSays a))
   pub drawn-no-other : Says entry.drawn (λ κs (run, _) a _. (s : Said) → Answers run s → drawnSays a ≡ s)
+  -- "16 is no longer given"
+  pub no-sixteen : Says entry.drawn (λ κs (run, _) a _. (place : ℕ) → drawnSays a ≡ undrawn 16 place → ⊥)

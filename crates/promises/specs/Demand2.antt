@@ -1,21 +1,22 @@
 -- Demand 2: "Exactly the published rules. Lightest tree, shortest tree and walk as document 01 states them, ties
--- included. Records are read and written both ways without loss, one record for one net. A drawn length becomes the
--- whole number of sixteenths that it is." The definitions of net/specs compute the trees; `TreesAsStated` is what they
--- come to in document 01's own words, over chains, routes and the walk's rules. The rest is said of the outcomes that
--- the entries' own contracts allow (`Says`, specs/Contracts): what building leaves in the lent lists, a margin that is
--- given, what is printed and what is handed on. The ratio of a post stands in specs/Ratios, records both ways in
--- specs/Records. Drawn runs are said over `drawnOf`, which is that contract (specs/Tied). What an answer says, its
--- number and values, is `saysOf`, `saysPlanned`, `marginSaysOf`, `saysBy`, `saysWritten` and, of a run, `drawnSays`.
+-- included. Records are read and written both ways without loss, one record for one net." And change request 04's:
+-- "Round each drawn value up to the next whole sixteenth." The definitions of net/specs compute the trees;
+-- `TreesAsStated` is what they come to in document 01's own words, over chains, routes and the walk's rules. The rest
+-- is said of the outcomes that the entries' own contracts allow (`Says`, specs/Contracts): what building leaves in the
+-- lent lists, a margin that is given, what is printed and what is handed on. The ratio of a post stands in
+-- specs/Ratios, records both ways in specs/Records. Drawn runs are said over `drawnOf`, which is that contract
+-- (specs/Tied). What an answer says, its number and values, is `saysOf`, `saysPlanned`, `marginSaysOf`, `saysBy`,
+-- `saysWritten` and, of a run, `drawnSays`.
 use mathlib.Core.Path.{_≡_}
 use mathlib.Core.Logic.{_↔_}
-use mathlib.Core.Bool.{false}
+use mathlib.Core.Bool.{Bool, false}
 use mathlib.Core.List.{List}
 use mathlib.Core.Option.{some}
 use Prim.Native.Nat.{ℕ, _+_, _*_, _≤_, _<_}
 use lib.Dec.{ltb}
 use lib.IntN.{ℤ, pos, subℕ}
 use lib.Signed.{ltZ}
-use lib.Ieee.{Float}
+use lib.Ieee.{Float, fin}
 use lib.ListN.{length, take, drop}
 use Rattle.net.specs.declared.Form.{Form}
 use Rattle.net.specs.declared.Form.the-variants.{First, Second}
@@ -46,14 +47,10 @@ use Rattle.on_records.specs.Says.{Plan, saysPlanned}
 use Rattle.reading.specs.Reading.{longestRecord, enoughBytes}
 use Rattle.moves.specs.Moves.{inForm, moveRefusal}
 use Rattle.printing.specs.Printed.{printed, answerText}
-<<<<<<< ours
-use Rattle.drawn.specs.Drawn.{drawnOf}
-=======
 use Rattle.moving.specs.Handing.{wantedBy, handing, answerHanding, Hands}
 use Rattle.drawn.specs.Drawn.{most, drawnOf}
->>>>>>> theirs
 use Rattle.drawn.specs.Says.{sixteenths, saysOf as drawnSays}
-use Rattle.drawn.specs.Rules.{Long, BothLong}
+use Rattle.drawn.specs.Rules.{AreSixteenths, RoundsTo, WithinTwo, Long, BothLong}
 use Rattle.drawn.specs.declared.Run.the-variants.{Straight, Corner}
 use Rattle.drawn.specs.declared.Answer.{Answer as Drawn}
 use Rattle.promises.specs.Contracts.{Says}
@@ -160,11 +157,20 @@ pub record MarginAsStated (n : Net) (t : Tree) (post : ℕ) (z : ℤ) : Type 0 w
   pub between-within : t ≡ Between → ltZ z (pos 0) ≡ false
   pub shortest-within : t ≡ Shortest → ltZ z (pos 0) ≡ false
 
--- DRAWN RUNS: "A drawn length becomes the whole number of sixteenths that it is."
+-- DRAWN RUNS: "Round each drawn value up to the next whole sixteenth."
 pub record DrawnAsStated : Type 0 where
   pub straight : (x : Float) {a : Drawn} → a ≡ drawnOf (Straight x) → (k : ℕ) → (drawnSays a ≡ sixteenths k) ↔ Long x k
   pub corner : (x y : Float) {a : Drawn} → a ≡ drawnOf (Corner x y) → (k : ℕ) → (drawnSays a ≡ sixteenths k)
       ↔ BothLong x y k
+  -- "the answer is at least 16 times the exact length and less than 1 above it, and for a corner less than 2 above it,
+  -- over whole numbers from the bits": of the floats ±m * 2 ^ e and ±n * 2 ^ f
+  pub straight-within : (s : Bool) (m : ℕ) (e : ℤ) {a : Drawn} → a ≡ drawnOf (Straight (fin s m e)) → (k : ℕ)
+      → drawnSays a ≡ sixteenths k → RoundsTo m e k
+  pub corner-within : (s t : Bool) (m n : ℕ) (e f : ℤ) {a : Drawn} → a ≡ drawnOf (Corner (fin s m e) (fin t n f))
+      → (k : ℕ) → drawnSays a ≡ sixteenths k → WithinTwo m e n f k
+  -- a whole number of sixteenths stays what it is
+  pub whole-same : (m : ℕ) (e : ℤ) (k : ℕ) → AreSixteenths m e k → 1 ≤ k → k ≤ most
+      → {a : Drawn} → a ≡ drawnOf (Straight (fin false m e)) → drawnSays a ≡ sixteenths k
 
 -- THE PROGRAM: "reads one record from standard input and prints the trees, or the one line of a refusal"
 pub record ProgramAsStated : Type 2 where

@@ -589,16 +589,14 @@ fn attempt(notes: &mut [u32], tree: &mut [u16], v: usize, u: usize, number: u16,
     }
 }
 
-/// 16 times one length, or its refusal with this place.
+/// 16 times one length, rounded up, or its refusal with this place.
 #[inline]
 fn sixteenths(length: f64, place: usize) -> Result<u32, Refusal> {
-    // Doubling is exact, and what becomes infinite was whole.
+    // Doubling is exact, and what becomes infinite is too long.
     let doubled = length * 16.0;
-    if (1.0..=f64::from(MOST_LENGTH)).contains(&doubled) {
+    if doubled > 0.0 && doubled <= f64::from(MOST_LENGTH) {
         let whole = doubled as u32;
-        if f64::from(whole) == doubled {
-            return Ok(whole);
-        }
+        return Ok(whole + u32::from(f64::from(whole) != doubled));
     }
     let refused = if !length.is_finite() {
         13
@@ -606,8 +604,6 @@ fn sixteenths(length: f64, place: usize) -> Result<u32, Refusal> {
         14
     } else if length == 0.0 {
         15
-    } else if doubled.is_finite() && doubled.trunc() != doubled {
-        16
     } else {
         17
     };

@@ -146,7 +146,7 @@ impl<F: Functions> Library<F> {
         }
     }
 
-    /// The same where a call is dear: without every length that can be drawn, and
+    /// The same where a call is dear: without every whole number of sixteenths, and
     /// with the cuts of the second form's longest record only.
     pub fn dear(functions: F) -> Self {
         Library {
@@ -346,18 +346,20 @@ impl<F: Functions> Library<F> {
         }
     }
 
-    /// Every length that can be drawn, some at once.
+    /// Every whole number of sixteenths, and what is next to it, some at once.
     fn length_lot(&self) -> Lot<'_> {
         let most = MOST_LENGTH as usize;
         Lot {
-            name: format!("every drawn length, {LENGTHS_AT_ONCE} at once"),
+            name: format!("every whole number of sixteenths, {LENGTHS_AT_ONCE} at once"),
             count: most / LENGTHS_AT_ONCE + 1,
             compare: Box::new(move |number, counts| {
                 let first = number * LENGTHS_AT_ONCE;
                 for sixteenths in first..first + LENGTHS_AT_ONCE {
-                    let run = Run::Straight(sixteenths as f64 / 16.0);
-                    self.compare_drawn(run, 1, counts)
-                        .map_err(|difference| Found::elsewhere("drawn lengths", difference))?;
+                    let length = sixteenths as f64 / 16.0;
+                    for near in [length, length.next_up(), length.next_down()] {
+                        self.compare_drawn(Run::Straight(near), 1, counts)
+                            .map_err(|difference| Found::elsewhere("drawn lengths", difference))?;
+                    }
                 }
                 Ok(())
             }),
@@ -424,7 +426,7 @@ impl<F: Functions> Subject for Library<F> {
 
     fn refusals(&self) -> &[u32] {
         &[
-            1, 2, 3, 4, 5, 6, 7, 8, 9, 10, 11, 12, 13, 14, 15, 16, 17, 18, 19, 20, 30,
+            1, 2, 3, 4, 5, 6, 7, 8, 9, 10, 11, 12, 13, 14, 15, 17, 18, 19, 20, 30,
         ]
     }
 

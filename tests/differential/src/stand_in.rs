@@ -3,7 +3,8 @@
 
 use reference::move_slips::{slipped_moved_into, MoveSlip};
 use reference::slips::{
-    drawn_by_refusal, house_margin, slipped_read, slipped_record, slipped_trees, LentSlip, Slip,
+    drawn_by_refusal, drawn_rounded_once, drawn_to_nearest, house_margin, slipped_read,
+    slipped_record, slipped_trees, LentSlip, Slip,
 };
 use reference::{
     build, drawn_length, margin, moved_into, program_output, read, three_trees, write_into, Net,
@@ -49,13 +50,17 @@ enum Fault {
     Long,
     /// A not-a-number is accepted.
     NotANumber,
+    /// A drawn length is rounded to the nearest sixteenth.
+    Nearest,
+    /// The legs of a corner are added before they are rounded.
+    RoundedOnce,
     /// Only 1 makes a corner.
     OneCorner,
     /// The bindings print something else.
     Silent,
 }
 
-const FAULTS: [Fault; 17] = [
+const FAULTS: [Fault; 19] = [
     Fault::MovedBeyond,
     Fault::MovedUnmarked,
     Fault::Accepting,
@@ -71,6 +76,8 @@ const FAULTS: [Fault; 17] = [
     Fault::OtherTree,
     Fault::Long,
     Fault::NotANumber,
+    Fault::Nearest,
+    Fault::RoundedOnce,
     Fault::OneCorner,
     Fault::Silent,
 ];
@@ -157,6 +164,10 @@ impl StandIn {
     fn drawn_length(&self, run: Run) -> Result<u64, Refusal> {
         let length = match run {
             Run::Straight(length) if self.does(Fault::NotANumber) => drawn_by_refusal(length),
+            Run::Straight(length) if self.does(Fault::Nearest) => drawn_to_nearest(length),
+            Run::Corner(first, second) if self.does(Fault::RoundedOnce) => {
+                drawn_rounded_once(first, second)
+            }
             _ => drawn_length(run),
         };
         length.map(|length| u64::from(length) + u64::from(self.does(Fault::Long)))

@@ -59,9 +59,15 @@ fn drawn_lengths_by_two_methods() {
             "{bits:#x}"
         );
     }
-    // Every good length there is.
+    // Every whole number of sixteenths, and what is next above it.
     for whole in 1..=1_048_575 {
-        assert_eq!(sixteenths(f64::from(whole) / 16.0, 0), Ok(whole));
+        let length = f64::from(whole) / 16.0;
+        let above = f64::from_bits(length.to_bits() + 1);
+        assert_eq!(sixteenths(length, 0), Ok(whole));
+        assert_eq!(
+            sixteenths(above, 0).ok(),
+            (whole < 1_048_575).then(|| whole + 1)
+        );
     }
 }
 

@@ -455,7 +455,7 @@ fn lent_lists_reach_refusals_8_18_and_19() {
 #[test]
 fn drawn_runs_reach_every_refusal_at_every_place() {
     let mut tally = Tally::default();
-    for number in 13..=17 {
+    for number in [13, 14, 15, 17] {
         for place in [0, 1] {
             tally.meet(format!("{number} at {place}"), false);
         }
@@ -474,7 +474,7 @@ fn drawn_runs_reach_every_refusal_at_every_place() {
             }
         }
     }
-    assert_eq!(tally.0.len(), 12);
+    assert_eq!(tally.0.len(), 10);
     tally.demand(50);
 }
 

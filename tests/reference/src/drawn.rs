@@ -1,4 +1,5 @@
-//! Drawn runs turned into lengths: refusals 13 to 17.
+//! Drawn runs turned into lengths, each rounded up to a whole sixteenth:
+//! refusals 13, 14, 15 and 17.
 //!
 //! A length is taken apart into a whole number times a power of two, and the
 //! question is settled by whole-number division. [`sixteenths_by_doubling`]
@@ -26,7 +27,7 @@ fn taken_apart(length: f64) -> (u128, i32) {
     }
 }
 
-/// 16 times one length, or its refusal with this place.
+/// 16 times one length, rounded up, or its refusal with this place.
 pub fn sixteenths(length: f64, place: usize) -> Result<u32, Refusal> {
     if !length.is_finite() {
         return Err(Refusal::new(13, place));
@@ -44,12 +45,8 @@ pub fn sixteenths(length: f64, place: usize) -> Result<u32, Refusal> {
         // From 2^21 on the answer is above the limit, whatever `whole` is.
         whole << power.min(21)
     } else {
-        // From 2^53 on the divisor is above `whole`, so there is a remainder.
-        let divisor = 1_u128 << power.unsigned_abs().min(53);
-        if whole % divisor != 0 {
-            return Err(Refusal::new(16, place));
-        }
-        whole / divisor
+        // From 2^53 on the divisor is above `whole`, so the answer is 1.
+        whole.div_ceil(1 << power.unsigned_abs().min(53))
     };
     match u32::try_from(result) {
         Ok(result) if result <= MOST_LENGTH => Ok(result),
@@ -58,7 +55,7 @@ pub fn sixteenths(length: f64, place: usize) -> Result<u32, Refusal> {
 }
 
 /// The same as [`sixteenths`], by doubling four times: doubling a binary
-/// number is exact, unless it passes the largest one.
+/// number is exact, unless it passes the largest one, and so is rounding it up.
 pub fn sixteenths_by_doubling(length: f64, place: usize) -> Result<u32, Refusal> {
     let number = if length.is_nan() || length == f64::INFINITY || length == f64::NEG_INFINITY {
         13
@@ -71,19 +68,18 @@ pub fn sixteenths_by_doubling(length: f64, place: usize) -> Result<u32, Refusal>
         for _ in 0..4 {
             doubled += doubled;
         }
-        // What passed the largest number was a whole number before.
-        if doubled.is_finite() && doubled.floor() != doubled {
-            16
-        } else if doubled > f64::from(MOST_LENGTH) {
+        let rounded = doubled.ceil();
+        if rounded > f64::from(MOST_LENGTH) {
             17
         } else {
-            return Ok(doubled as u32);
+            return Ok(rounded as u32);
         }
     };
     Err(Refusal::new(number, place))
 }
 
-/// The length of a drawn run, in sixteenths of a millimetre.
+/// The length of a drawn run, in sixteenths of a millimetre: each leg is rounded
+/// by itself, and then they are added.
 pub fn drawn_length(run: Run) -> Result<u32, Refusal> {
     match run {
         Run::Straight(length) => sixteenths(length, 0),

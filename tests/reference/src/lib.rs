@@ -13,7 +13,7 @@
 //!   and 9;
 //! * [`record`]: reading and writing records, refusals 8, 10 to 12 and 18;
 //! * [`moves`]: moving a record into the other form, refusals 20 and 30;
-//! * [`drawn`]: drawn runs, refusals 13 to 17;
+//! * [`drawn`]: drawn runs, rounded up, refusals 13, 14, 15 and 17;
 //! * [`trees`]: the lightest and the shortest tree, and sums over any tree;
 //! * [`between`]: the walk that makes the third tree;
 //! * [`building`]: the building call and the margin, refusals 8 and 19;

@@ -6,6 +6,7 @@
 
 use crate::between::children;
 use crate::building::{three_trees, Tree, Trees};
+use crate::drawn::{drawn_length, Run};
 use crate::lent::LentNet;
 use crate::net::{check_ratio, posts_but, Form, Net, Ratio, Refusal, Segment, MOST_LENGTH};
 use crate::program::{plan_text, refusal_text, MOST_BYTES};
@@ -416,19 +417,31 @@ pub fn slipped_smallest(net: &Net, right: &Trees, slip: SmallestSlip) -> Option<
 /// One drawn length by tests for refusal, each a comparison, instead of for
 /// acceptance: a not-a-number slips through.
 pub fn drawn_by_refusal(length: f64) -> Result<u32, Refusal> {
-    let sixteenths = length * 16.0;
+    let sixteenths = (length * 16.0).ceil();
     let refused = if length.is_infinite() {
         13
     } else if length < 0.0 {
         14
     } else if length == 0.0 {
         15
-    } else if sixteenths.floor() < sixteenths {
-        16
     } else if sixteenths > f64::from(MOST_LENGTH) {
         17
     } else {
         return Ok(sixteenths as u32);
     };
     Err(Refusal::new(refused, 0))
+}
+
+/// A drawn length rounded to the nearest sixteenth instead of up.
+pub fn drawn_to_nearest(length: f64) -> Result<u32, Refusal> {
+    let up = drawn_length(Run::Straight(length))?;
+    let nearest = (length * 16.0).round();
+    Ok(up - u32::from(nearest < f64::from(up)))
+}
+
+/// A corner's legs added first, and the sum rounded once.
+pub fn drawn_rounded_once(first: f64, second: f64) -> Result<u32, Refusal> {
+    let up = drawn_length(Run::Corner(first, second))?;
+    let dropped = |length: f64| (length * 16.0).ceil() - length * 16.0;
+    Ok(up - u32::from(dropped(first) + dropped(second) >= 1.0))
 }

@@ -3,7 +3,9 @@
 use reference::net::{MOST_LENGTH, MOST_SEGMENTS};
 use reference::program::MOST_BYTES;
 use reference::record::{number_bytes, read_number, LONGEST_FIRST_FORM, LONGEST_RECORD};
-use reference::slips::{drawn_by_refusal, slipped_output, slipped_trees, Slip};
+use reference::slips::{
+    drawn_by_refusal, drawn_rounded_once, drawn_to_nearest, slipped_output, slipped_trees, Slip,
+};
 use reference::trees::{least_lengths, lightest, path, shortest, whole_length, SOURCE_ENTRY};
 use reference::worked::{
     net_a, net_b, net_c, one_post, two_posts, two_posts_apart, RECORD_A, RECORD_TWO_POSTS,
@@ -507,13 +509,25 @@ fn writing_into_lent_room() {
 
 #[test]
 fn drawn_lengths_as_worked() {
-    let worked: [(f64, Result<u32, Refusal>); 17] = [
+    let worked: [(f64, Result<u32, Refusal>); 30] = [
         (12.5, Ok(200)),
         (65_535.937_5, Ok(1_048_575)),
         (65_536.0, refusal(17, 0)),
         (0.0625, Ok(1)),
-        (0.031_25, refusal(16, 0)),
-        (0.1, refusal(16, 0)),
+        (0.031_25, Ok(1)),
+        (0.1, Ok(2)),
+        (0.2, Ok(4)),
+        (0.3, Ok(5)),
+        (0.065, Ok(2)),
+        (100.1, Ok(1_602)),
+        // The neighbours of 1/16, of 1 and of the longest.
+        (f64::from_bits(0x3fb0_0000_0000_0001), Ok(2)),
+        (f64::from_bits(0x3faf_ffff_ffff_ffff), Ok(1)),
+        (f64::from_bits(0x3ff0_0000_0000_0001), Ok(17)),
+        (f64::from_bits(0x40ef_fffd_ffff_ffff), Ok(1_048_575)),
+        (f64::from_bits(0x40ef_fffe_0000_0001), refusal(17, 0)),
+        (65_535.9, Ok(1_048_575)),
+        (65_535.95, refusal(17, 0)),
         (f64::NAN, refusal(13, 0)),
         (-f64::NAN, refusal(13, 0)),
         (f64::INFINITY, refusal(13, 0)),
@@ -521,10 +535,12 @@ fn drawn_lengths_as_worked() {
         (-1.0, refusal(14, 0)),
         (-0.0, refusal(15, 0)),
         (0.0, refusal(15, 0)),
-        // Subnormals, and above the limit without being a multiple.
-        (f64::from_bits(1), refusal(16, 0)),
+        // Small ones, and above the limit without being a multiple.
+        (f64::from_bits(1), Ok(1)),
+        (1e-300, Ok(1)),
+        (-0.1, refusal(14, 0)),
         (-f64::from_bits(1), refusal(14, 0)),
-        (70_000.031_25, refusal(16, 0)),
+        (70_000.031_25, refusal(17, 0)),
         (f64::MAX, refusal(17, 0)),
     ];
     for (length, answer) in worked {
@@ -533,9 +549,11 @@ fn drawn_lengths_as_worked() {
         let as_leg = answer
             .map(|sixteenths| sixteenths + 1)
             .map_err(|Refusal { number, .. }| Refusal { number, place: 1 });
-        if length != 65_535.937_5 {
-            let corner = Run::Corner(0.0625, length);
-            assert_eq!(drawn_length(corner), as_leg, "{length}");
+        let corner = drawn_length(Run::Corner(0.0625, length));
+        if answer == Ok(1_048_575) {
+            assert_eq!(corner, refusal(17, 2), "{length}");
+        } else {
+            assert_eq!(corner, as_leg, "{length}");
         }
     }
 }
@@ -546,7 +564,20 @@ fn drawn_corners_as_worked() {
     assert_eq!(corner(10.0, 2.5), Ok(200));
     assert_eq!(corner(65_535.937_5, 0.0625), refusal(17, 2));
     assert_eq!(corner(65_535.875, 0.0625), Ok(1_048_575));
-    // The first leg's five come before the second's.
+    // Each leg is rounded by itself, and then they are added.
+    assert_eq!(corner(0.1, 0.1), Ok(4));
+    assert_eq!(corner(0.031_25, 0.031_25), Ok(2));
+    assert_eq!(corner(65_535.8, 0.1), Ok(1_048_575));
+    assert_eq!(corner(65_535.937_5, 0.01), refusal(17, 2));
+    assert_eq!(corner(65_535.9, 0.01), refusal(17, 2));
+    assert_eq!(corner(32_768.0, 32_767.95), refusal(17, 2));
+    // The first leg's four come before the second's.
+    assert_eq!(corner(65_535.95, f64::NAN), refusal(17, 0));
+    assert_eq!(corner(0.1, f64::NAN), refusal(13, 1));
+    assert_eq!(corner(0.1, -1.0), refusal(14, 1));
+    assert_eq!(corner(0.1, 0.0), refusal(15, 1));
+    assert_eq!(corner(0.0, 0.1), refusal(15, 0));
+    assert_eq!(corner(0.1, 65_535.95), refusal(17, 1));
     assert_eq!(corner(65_536.0, f64::NAN), refusal(17, 0));
     assert_eq!(corner(65_535.937_5, f64::NAN), refusal(13, 1));
     assert_eq!(corner(65_535.937_5, 65_536.0), refusal(17, 1));
@@ -685,6 +716,18 @@ fn slip_of_a_test_for_refusal_lets_a_not_a_number_through() {
     assert_eq!(drawn_length(Run::Straight(f64::NAN)), refusal(13, 0));
     for good in [12.5, 65_535.937_5, 0.1, 65_536.0, -1.0] {
         assert_eq!(drawn_by_refusal(good), drawn_length(Run::Straight(good)));
+    }
+}
+
+#[test]
+fn slips_of_rounding_show_on_decimals() {
+    assert_eq!(drawn_to_nearest(0.2), Ok(3));
+    assert_eq!(drawn_to_nearest(0.065), Ok(1));
+    assert_eq!(drawn_rounded_once(0.031_25, 0.031_25), Ok(1));
+    for (first, second) in [(12.5, 0.0625), (0.1, 65_536.0), (0.1, 10.0)] {
+        let corner = drawn_length(Run::Corner(first, second));
+        assert_eq!(drawn_rounded_once(first, second), corner);
+        assert_eq!(drawn_to_nearest(first), drawn_length(Run::Straight(first)));
     }
 }
 
