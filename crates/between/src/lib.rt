@@ -1,6 +1,8 @@
 // Between: the third tree, made by a walk over a tree that is given (document 01, "The three trees"): try, lay, enter
 // and the walk itself, each proved equal to its definition in `net`. Segments come as three slices side by side. Reads
 // and stores outside a slice are harmless, so little is asked.
+#![tactic(auto)]
+
 ghost use Rattle.std.specs.Prelude.{◌≡◌, cond, ℕ, ◌+◌, ◌*◌, ◌/◌, ◌≤◌, ◌<◌, eqb, ltb, ◌++◌, length, get_or, set, replicate, drop};
 ghost use Rattle.net.specs.Words.{no_segment};
 ghost use Rattle.net.specs.Net.{length_at, most_ratio};

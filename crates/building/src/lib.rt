@@ -1,6 +1,8 @@
 // Building: the three trees of a net, with their lengths and radii and the count of laid paths.
 // Over the head by value, the posts' own ratios as two slices side by side and the segments as three. Relies on
 // `checks`, `trees` and `hanging`.
+#![tactic(auto)]
+
 ghost use Rattle.std.specs.Prelude.{◌≡◌, ◌++◌, ◌≤◌, length as size, drop};
 ghost use Rattle.net.specs.Refusals.{refusal};
 ghost use Rattle.net.specs.Ready.{net_by, count_by, ratio_count_by, Ready};
@@ -13,7 +15,7 @@ use net::{Checked, Head, Measured, Refusal};
 use trees::Prepared;
 
 // "An answer is either a result or a refusal with its number and its place."
-#[derive(Drop)]
+#[derive(Clone, Copy)]
 pub enum Answer {
     Built {
         lightest: Measured,

@@ -2,6 +2,8 @@
 // either form. A refusal is number × 2^32 + place; the place of 3 is 0 for the house ratio, and the post for a post's
 // own. After one nothing that is lent is changed, and no function asks anything of what is lent. Thin over
 // `on_records`, `moves` and `drawn`, whose answers `c_numbers` puts into numbers.
+#![tactic(auto)]
+
 ghost use Rattle.std.specs.Prelude.{◌≡◌};
 ghost use Rattle.net.specs.declared.Form.TheVariants.{First, Second};
 ghost use Rattle.drawn.specs.Drawn.{drawn_of};

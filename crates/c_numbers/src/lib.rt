@@ -3,6 +3,8 @@
 // an equation with a definition of specs/. Relies on `net` for a refusal, a head, a tree, and length and radius, and on
 // `drawn` for a run. The crate `c_calls` stands on it; `mark` asks for a number of the table of refusals, and nothing
 // else here asks anything.
+#![tactic(auto)]
+
 ghost use Rattle.std.specs.Prelude.{◌≡◌, [], ◌∷◌, ◌≤◌, min};
 ghost use Rattle.std.specs.Float.{binary64};
 ghost use Rattle.std.specs.Float.Ieee.{of_bits};

@@ -3,6 +3,8 @@
 // of a net whose ratios stand in two slices and whose segments stand in three (`check`). Each answers what the table of
 // `net` gives (its specs/Refusals), and asks nothing of what is lent to it. `segment_count` and `segment_at` say what
 // three slices side by side stand for. Relies on `net` alone; reading, writing, building and margin stand above it.
+#![tactic(auto)]
+
 ghost use Rattle.std.specs.Prelude.{◌≡◌, ◌<◌, ◌≤◌, not, ◌&&◌, eqb, leb, length as size};
 ghost use Rattle.net.specs.Net.{ratio_at, own_of, nth_segment, most_segments, every};
 ghost use Rattle.net.specs.Ready.{ratios_by, segments_by};

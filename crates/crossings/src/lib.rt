@@ -8,6 +8,8 @@
 //
 // The contracts speak of lists (specs/Lists.antt). Relies on `net` for what a segment is and how many a net has, on
 // `checks` for 1 to 7, and on `by_hand` for the steps by which the two loops over lent structs are proved.
+#![tactic(auto)]
+
 ghost use Rattle.std.specs.Prelude.{◌≡◌, length as size};
 ghost use Rattle.net.specs.Ready.{ratios_by, segments_by};
 ghost use Rattle.net.specs.Refusals.{first, checked_of};

@@ -11,6 +11,8 @@
 //
 // The contracts speak of the float's value (specs/Drawn.antt, and rule by rule specs/Rules.antt).
 // The code works it out from the bits. Relies on `net` for the refusal's type alone.
+#![tactic(auto)]
+
 ghost use Rattle.std.specs.Prelude.{◌≡◌};
 ghost use Rattle.std.specs.Float.{binary64};
 ghost use Rattle.std.specs.Float.Ieee.{of_bits};
@@ -19,21 +21,21 @@ ghost use Rattle.drawn.specs.Drawn.{the_leg_of, refusal, straight_of, corner_of,
 use net::Refusal;
 
 // A run as it is drawn: lengths in millimetres.
-#[derive(Drop)]
+#[derive(Clone, Copy)]
 pub enum Run {
     Straight(f64),
     Corner(f64, f64),
 }
 
 // A length in sixteenths, or a refusal.
-#[derive(Drop)]
+#[derive(Clone, Copy)]
 pub enum Answer {
     Length(u32),
     Refused(Refusal),
 }
 
 // One leg: so many sixteenths, or the number of its refusal.
-#[derive(Drop)]
+#[derive(Clone, Copy)]
 enum Leg {
     Sixteenths(u32),
     Refuse(u32),

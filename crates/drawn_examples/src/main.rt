@@ -1,6 +1,8 @@
 // Worked examples of drawn runs, the borders of rounding and the edges of the f64s, on the compiled
 // code. One line each: the run as drawn, then `length` and its sixteenths, or `refused`, the number
 // and the place. The file `stdout` beside src/ has what must be written. Relies on `drawn`.
+#![tactic(auto)]
+
 use drawn::{Answer, Run};
 use libc::STDOUT_FILENO;
 

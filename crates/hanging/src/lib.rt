@@ -2,6 +2,8 @@
 // or of each, the radius. Each is proved equal to the definition of `net`. Segments come as slices side by side: two
 // ends, what a segment counts for (its length, or 1), and whether it is present. Relies on `net` alone. Below
 // `shortest`, which finds the least lengths and reads and fills its lists by the functions here.
+#![tactic(auto)]
+
 ghost use Rattle.std.specs.Prelude.{◌≡◌, cond, List, ◌++◌, ℕ, ◌<◌, ◌≤◌, length, get_or, take, drop, eqb};
 ghost use Rattle.net.specs.Words.{no_segment, tab, largest};
 ghost use Rattle.net.specs.Net.{most_posts, most_segments, segments_of};

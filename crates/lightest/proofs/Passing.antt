@@ -32,6 +32,7 @@ has (x ∷ l) j = eqb j x || has l j
 
 -- a member passes
 pub says_has : (l : List ℕ) (j : ℕ) → Has j l → has l j ≡ true
+says_has [] j h = elim h [ ]
 says_has (x ∷ l) j (inl e) = or_left (eqb j x) (has l j) (eq-eqb j x e)
 says_has (x ∷ l) j (inr h) = or_right (eqb j x) (has l j) (says_has l j h)
 

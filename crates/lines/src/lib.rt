@@ -1,6 +1,8 @@
 // What the program prints, as bytes in lent room. A function puts its text from the place `at` on, leaves all other
 // bytes as they are and answers the place behind the text. Nothing is refused: each asks that its text fits, and 8,192
 // bytes are room for the longest.
+#![tactic(auto)]
+
 ghost use Rattle.std.specs.Prelude.{◌≡◌, ◌∷◌, [], ◌+◌, ◌≤◌, ◌<◌, length as size};
 ghost use Rattle.net.specs.Net.{most_posts};
 ghost use Rattle.net.specs.Building.{built};

@@ -1,6 +1,8 @@
 // The margin of a post in a tree of a net: "(p + q) × D minus q × path in the tree", at the post's own ratio.
 // Over the head by value, the posts' own ratios as two slices side by side and the segments as three. Relies on
 // `checks`, `trees` and `hanging`.
+#![tactic(auto)]
+
 ghost use Rattle.std.specs.Prelude.{◌≡◌, ◌*◌, ◌≤◌, ◌<◌, length as size};
 ghost use Rattle.std.proofs.Math.IntN.{sub_ℕ};
 ghost use Rattle.net.specs.Net.{every, most_ratio};
@@ -18,7 +20,7 @@ use net::{Checked, Head, Refusal, Tree};
 use trees::Prepared;
 
 // A margin, or a refusal.
-#[derive(Drop)]
+#[derive(Clone, Copy)]
 pub enum MarginAnswer {
     Margin(i64),
     Refused(Refusal),

@@ -1,6 +1,8 @@
 // The program that moves a record: reads one byte that says where to, and then one record, from standard input. The
 // moved record goes to standard output, the one line of a refusal to standard error; so does a line where the record
 // couldn't be written. Thin over `moving`, which says how much is read and what is handed on.
+#![tactic(auto)]
+
 use libc::{STDERR_FILENO, STDIN_FILENO, STDOUT_FILENO};
 use moving::{ENOUGH_BYTES, Handed, LONGEST_RECORD, hand_on};
 

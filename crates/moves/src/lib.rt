@@ -4,6 +4,8 @@
 // wanted, then 20, place the lowest post with another ratio, then 18". A move looks at the record and not at a loom: a
 // net that isn't joined moves too. Neither asks anything of what is lent, and after a refusal nothing lent is changed.
 // Thin over `reading` and `writing`; the library for C stands on it.
+#![tactic(auto)]
+
 ghost use Rattle.std.specs.Prelude.{◌≡◌, ◌<◌, ◌≤◌, length};
 ghost use Rattle.net.specs.Ready.{ratios_by};
 ghost use Rattle.net.specs.Refusals.{refusal};

@@ -2,6 +2,8 @@
 // at most 15,372 bytes of a record, which is enough: its answer is that on the whole input. The room for what is handed
 // on takes the longest good record, so that 18 is never given. Thin over `moves` and `lines`; the program reads into
 // the room that is named here, and hands on what is put here.
+#![tactic(auto)]
+
 ghost use Rattle.std.specs.Prelude.{◌≡◌, length as size};
 ghost use Rattle.moves.specs.Moves.{Moves};
 ghost use Rattle.reading.specs.Reading.{longest_record};
@@ -17,7 +19,7 @@ pub const ENOUGH_BYTES: usize = 15372;
 pub const LONGEST_RECORD: usize = 15367;
 
 // How many bytes are handed on: those of a record that was moved, or the line of a refusal.
-#[derive(Drop)]
+#[derive(Clone, Copy)]
 pub enum Handed {
     Moved(usize),
     Refused(usize),

@@ -90,6 +90,7 @@ module _ (g : Given) (ok : ℕ → Bool) (s : ℕ) (owed : Owed g ok s) where
 
   entered : (w : ℕ) (n : Notes) (v : ℕ) {x y : ℕ} {ms : List Move} → Trip g ok x ms y → Enters g v ms → x < g.posts → Fine g ok s n → at n.d x ≤ w
       → at (moves g n ms).d v ≤ w + way g.segments ms
+  entered w n v stay e h f k = elim e [ ]
   entered w n v (enters {x = x} {ms = ms} t) now h f k =
       rw (moves_enter g n x ms) (omega (arith, moves_lower g (enter g x n) ms x, enter_lower g x n x))
   entered w n v (enters {x = x} {ms = ms} t) (later e) h f k =

@@ -165,6 +165,7 @@ module _ {ls : List Line} where
   of_present : (b : Bool) {r : Refusal} → FirstOf (present_lines b ls) (some r) → (b ≡ true) × FirstOf ls (some r)
   unfolding present_lines
   of_present true f = (refl, f)
+  of_present false {r = r} f = elim f [ ]
 
   none_present : (b : Bool) → FirstOf (present_lines b ls) none → b ≡ true → FirstOf ls none
   unfolding present_lines

@@ -5,14 +5,13 @@ use mathlib.Core.Bool.{Bool}
 use mathlib.Core.List.{List, [], ◌∷◌}
 use Prim.Native.Nat.{ℕ, ◌+◌, ◌*◌, ◌<◌}
 use native.Mathlib.Omega.{arith}
-use lib.ListN.{length}
 use Rattle.net.specs.Words.{AllOf}
 use Rattle.net.specs.Trees.{at}
-use Rattle.net.specs.Walk.{Notes, Given, at_start, try, lay, count, enter, walk}
+use Rattle.net.specs.Walk.{Notes, Given, at_start, try, lay, enter, walk}
 use Rattle.net.proofs.Least.{leads_to}
 use Rattle.net.proofs.Steps.{enter_cases, try_laid, lay_laid, count_laid}
 use Rattle.net.proofs.Notes.{Owed, Fine, fine_try, fine_enter, fine_start, start_laid}
-use Rattle.net.proofs.Tour.{Move, tour, moves, moves_enter, moves_try, moves_none, walk_is_tour, Trip, stay, enters, goes, tour_trip}
+use Rattle.net.proofs.Tour.{Move, moves, moves_enter, moves_try, moves_none, walk_is_tour, Trip, stay, enters, goes, tour_trip}
 
 all_by : {P Q : ℕ → Type 0} → ((v : ℕ) → P v → Q v) → (l : List ℕ) → AllOf P l → AllOf Q l
 all_by f [] a = tt

@@ -2,13 +2,13 @@
 -- one segment (`entries_differ`), and 0 where the source is the only post (`one_post`); its radius is at least the length of every path, and of one
 -- (`radius_most`, `radius_one`). Rests on Climbs and Used.
 use mathlib.Core.Path.{◌≡◌, refl, sym, ap, ◌∙◌}
-use mathlib.Core.Bool.{Bool, true, ◌&&◌}
+use mathlib.Core.Bool.{Bool, ◌&&◌}
 use mathlib.Core.List.{List}
 use Prim.Native.Nat.{ℕ, ◌≤◌, ◌<◌}
 use native.Mathlib.Omega.{arith}
 use lib.ListN.{length}
 use Rattle.net.specs.Words.{no_segment, counted}
-use Rattle.net.specs.Net.{length_at, touches, Leads, set_length}
+use Rattle.net.specs.Net.{length_at, Leads, set_length}
 use Rattle.net.specs.Trees.{entry, hangs, used_by, parent, Climb, arrived, up, IsTree, the_path_in, radius, whole}
 use Rattle.net.specs.declared.Segment.{Segment}
 use Rattle.net.proofs.Words.{and_i, counted_mono, largest_most, largest_one}

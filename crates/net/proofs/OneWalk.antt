@@ -2,7 +2,7 @@
 -- for laying, for entering, for a walk (`one_walk`), and from the start (`one_outcome`). Nothing is asked of the tree walked, of the shortest tree or of D.
 use mathlib.Core.Path.{◌≡◌, refl, sym, ap, ap₂, ◌∙◌}
 use mathlib.Core.List.{List, [], ◌∷◌}
-use Prim.Native.Nat.{ℕ, suc, ◌≤◌, ◌<◌}
+use Prim.Native.Nat.{ℕ, ◌≤◌, ◌<◌}
 use native.Mathlib.Omega.{arith}
 use native.Mathlib.Decide.{ℕ_discrete}
 use lib.ListN.{length}
@@ -42,6 +42,7 @@ not_among_none R.first e = omega (arith, ap (λ (l : List ℕ). length l) e)
 not_among_none (R.later m) e = omega (arith, ap (λ (l : List ℕ). length l) e)
 
 rising_low : {low i : ℕ} {is : List ℕ} → Rising low is → Among i is → low ≤ i
+rising_low (R.none {low = low}) m = elim m [ ]
 rising_low (R.next h r) R.first = h
 rising_low (R.next h r) (R.later m) = let z = rising_low r m in omega arith
 

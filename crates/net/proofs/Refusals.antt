@@ -1,7 +1,7 @@
 -- DEMAND 1 for nets: every net has an answer by the rules of specs/Rules, it has no other, and the table of specs/Refusals gives it: `build_answers` and
 -- `build_only`, `margin_answers` and `margin_only`. 9 is said over routes: `nine_exactly`, `not_joined_exactly`. What is accepted: `accepted`, `margin_accepted`.
 -- Rests on 1 to 7 (Faults), on reading a table from the top (Tables), and on the bridge from `joined` to chains (Least).
-use mathlib.Core.Path.{◌≡◌, refl, sym, ◌∙◌}
+use mathlib.Core.Path.{◌≡◌, refl, sym, ◌∙◌, subst}
 use mathlib.Core.Bool.{Bool, not, ◌||◌}
 use mathlib.Core.Logic.{◌⊎◌, inl, inr, ◌↔◌}
 use mathlib.Core.List.{List, [], ◌∷◌, ◌++◌}
@@ -16,7 +16,7 @@ use Rattle.net.specs.Rules as R
 use Rattle.net.specs.Building.{joined_to_source, build_refusal, margin_refusal}
 use Rattle.net.proofs.Words.{not_true, not_false}
 use Rattle.net.proofs.Least.{Inside, joined_chain, not_joined}
-use Rattle.net.proofs.Tables.{FirstOf, end, here, below, first_of, first_only, InEither, in_first, in_second, in_either, some_append, none_append, LowestOf, nowhere, lowest_at, lowest_of, none_each, some_each, Tells, pass, fail, at_least, above, one_of_three}
+use Rattle.net.proofs.Tables.{FirstOf, end, here, below, first_of, first_only, only_line, InEither, in_first, in_second, in_either, some_append, none_append, LowestOf, nowhere, lowest_at, lowest_of, none_each, some_each, Tells, pass, fail, at_least, above, one_of_three}
 use Rattle.net.proofs.Faults.{faulty_first, sound_first, net_faulty, net_sound, sound_not_faulty, faulty_range}
 use Rattle.net.specs.declared.Refusal.{Refusal}
 
@@ -94,7 +94,9 @@ module _ (ok : ℕ → Bool) (m : ℕ) (n : Net) where
       where
         go : {r : Option Refusal} → LowestOf line_of n.head.posts r → JoinedRule r
         go (nowhere g) = all_joined (λ v k. line_joined (g v k))
-        go (lowest_at v k g (here e)) = apart (record { is_post = k; not_joined = (tells_9 v).passes e; lower_joined = λ u l. line_joined (g u l) })
+        go (lowest_at v {r = r} k g e) =
+            let o = only_line e in
+            subst (λ (x : Refusal). JoinedRule (some x)) o.1 (apart (record { is_post = k; not_joined = (tells_9 v).passes o.0; lower_joined = λ u l. line_joined (g u l) }))
 
     joined_first : {r : Option Refusal} → JoinedRule r → FirstOf (joined_lines n.head.posts (joined_to_source ok n)) r
     unfolding joined_lines

@@ -12,9 +12,9 @@ use lib.ListN.{length, get_or-eq_default}
 use mathlib.Core.Logic.{inl, inr}
 use borrow.Author.Tests.{eq-eqb}
 use Rattle.net.specs.Words.{counted, AllOf, no_segment}
-use Rattle.net.specs.Net.{Net, most_posts, longest, length_at, other, Chain, weigh, set_length, JoinsAll, SpanningTree}
+use Rattle.net.specs.Net.{Net, most_posts, longest, length_at, other, Chain, weigh, set_length, JoinsAll}
 use Rattle.net.specs.Rules.{NetSound, AllJoined}
-use Rattle.net.specs.Trees.{none_yet, at, IsLeast, Belongs, the_least_lengths, hanging_weight, lightest, ExactlyBelonging, entry, hangs, parent, whole, belongs_at, Climb, IsTree, the_path_in, HangsBy}
+use Rattle.net.specs.Trees.{none_yet, at, IsLeast, Belongs, the_least_lengths, hanging_weight, lightest, ExactlyBelonging, entry, hangs, parent, whole, Climb, IsTree, the_path_in, HangsBy}
 use Rattle.net.specs.Walk.{Given, at_start, child, walk}
 use Rattle.net.specs.Building.{lightest_of, least_lengths_of, shortest_of, given_with, walk_with}
 use Rattle.net.specs.declared.Segment.{Segment}
@@ -24,7 +24,7 @@ use Rattle.net.proofs.Least.{Inside, leads_from, least_small, least_is_least}
 use Rattle.net.proofs.Routes.{leads_back, join, along}
 use Rattle.net.proofs.Hung.{least_zero}
 use Rattle.net.proofs.Used.{hangs_entry}
-use Rattle.net.proofs.Lightest.{length_lightest, light_says, light_hangs, light_in, depth, depth_parent, depth_few, depth_source, exactly_belonging, light_source, light_climbs, lightest_least, lightest_spans, light_route}
+use Rattle.net.proofs.Lightest.{length_lightest, light_says, light_hangs, light_in, depth, depth_parent, depth_few, depth_source, exactly_belonging, light_source, light_climbs, lightest_least, light_route}
 use Rattle.net.proofs.Shortest.{given, owed, length_shortest, shortest_source, short_climb, short_says}
 use Rattle.net.proofs.Notes.{Owed}
 use Rattle.net.proofs.Tour.{Down, stop, down_on, child_entry, child_parent}

@@ -42,6 +42,11 @@ first_only (below e f) = rw e (first_only f)
 pub first_is : {ls : List Line} {r : Option Refusal} → first ls ≡ r → FirstOf ls r
 first_is {ls} e = rw e at (first_of ls)
 
+-- a table of one line gives what that line gives, and the line holds
+pub only_line : {l : Line} {r : Refusal} → FirstOf (l ∷ []) (some r) → (l.holds ≡ true) × (l.gives ≡ r)
+only_line (here e) = (e, refl)
+only_line (below e f) = elim f [ ]
+
 -- of two tables one after the other, the second is read where the first gives nothing
 pub data InEither (a b : List Line) : Option Refusal → Type 0 where
   in_first : {r : Refusal} → FirstOf a (some r) → InEither a b (some r)

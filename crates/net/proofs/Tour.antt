@@ -4,7 +4,7 @@
 use mathlib.Core.Path.{◌≡◌, refl, sym, ap, ◌∙◌}
 use mathlib.Core.Bool.{Bool, true, false}
 use mathlib.Core.List.{List, [], ◌∷◌, ◌++◌, foldl, foldl-append}
-use Prim.Native.Nat.{ℕ, zero, suc, ◌+◌, ◌≤◌, ◌<◌}
+use Prim.Native.Nat.{ℕ, zero, suc, ◌≤◌, ◌<◌}
 use native.Mathlib.Omega.{arith}
 use native.Mathlib.Decide.{dec_lt}
 use lib.ListN.{length}
@@ -194,6 +194,7 @@ module _ (g : Given) where
 
     -- a post that is entered meets its limit from then on
     limit_moves : (n : Notes) (v : ℕ) {x y : ℕ} {ms : List Move} → Trip ok x ms y → Enters v ms → x < g.posts → Fine g ok s n → Limit g ok s owed v (moves n ms)
+    limit_moves n v stay e h f = elim e [ ]
     limit_moves n v (enters {x = x} {ms = ms} t) now h f =
         rw (moves_enter n x ms) (limit_lower g ok s owed x (enter g x n) (moves (enter g x n) ms) (moves_lower (enter g x n) ms x) (enter_limit g ok s owed x n h f))
     limit_moves n v (enters {x = x} {ms = ms} t) (later e) h f = rw (moves_enter n x ms) (limit_moves (enter g x n) v t e h (fine_enter g ok s owed x n h f))

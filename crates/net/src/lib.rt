@@ -4,6 +4,8 @@
 // proofs/. The only functions are small steps that several crates take (`plain`); the checks 1 to 7 are those of
 // `checks`.
 
+#![tactic(auto)]
+
 pub mod plain;
 
 // THE NUMBERS THAT BOUND A NET, each only here.
@@ -31,7 +33,7 @@ pub const NONE_YET: u64 = 281_474_976_710_656;
 // WHAT A NET IS MADE OF.
 
 // "A segment joins two posts and has a length in sixteenths of a millimetre."
-#[derive(Drop)]
+#[derive(Clone, Copy)]
 pub struct Segment {
     pub a: u16,
     pub b: u16,
@@ -40,7 +42,7 @@ pub struct Segment {
 
 // "the form belongs to the net". In the first form the house ratio rules every post; in the second "every post but the
 // source now has its own p and q", and the house ratio is kept and checked.
-#[derive(Drop)]
+#[derive(Clone, Copy)]
 pub enum Form {
     First,
     Second,
@@ -48,7 +50,7 @@ pub enum Form {
 
 // All of a net but its segments and its posts' own ratios: the number of posts, the source, the house ratio p/q, and
 // the form.
-#[derive(Drop)]
+#[derive(Clone, Copy)]
 pub struct Head {
     pub posts: u32,
     pub source: u32,
@@ -58,21 +60,21 @@ pub struct Head {
 }
 
 // "a refusal with its number and its place"
-#[derive(Drop)]
+#[derive(Clone, Copy)]
 pub struct Refusal {
     pub number: u32,
     pub place: u32,
 }
 
 // Length and radius of a tree.
-#[derive(Drop)]
+#[derive(Clone, Copy)]
 pub struct Measured {
     pub length: u32,
     pub radius: u32,
 }
 
 // One of the three trees, by its name.
-#[derive(Drop)]
+#[derive(Clone, Copy)]
 pub enum Tree {
     Lightest,
     Shortest,
@@ -80,7 +82,7 @@ pub enum Tree {
 }
 
 // What a check answers: nothing refuses the net, or the first refusal.
-#[derive(Drop)]
+#[derive(Clone, Copy)]
 pub enum Checked {
     Sound,
     Refused(Refusal),

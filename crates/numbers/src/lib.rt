@@ -4,6 +4,8 @@
 // as that number, and no others do, stands in proofs/. Relies on `net` for what a refusal is, and on `by_hand` for the
 // walks over a reader. The crates `writing` and `reading` stand on it; `fill_number`, `put_part` and `put_at` ask that
 // the number fits, and nothing else here asks anything.
+#![tactic(auto)]
+
 pub mod reader;
 
 ghost use Rattle.std.specs.Prelude.{◌≡◌, ◌+◌, ◌%◌, ◌<◌, ◌≤◌, length};
@@ -16,7 +18,7 @@ ghost use Rattle.numbers.specs.Answers.{numbered_of};
 const MOST_NUMBER: u32 = 268435455;
 
 // What is read at a place: a number and the place after it, or 10 or 11 and the place of the number's first byte.
-#[derive(Drop)]
+#[derive(Clone, Copy)]
 pub enum Numbered {
     Number { value: u32, next: usize },
     Refused { number: u32, place: usize },

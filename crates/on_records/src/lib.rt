@@ -3,6 +3,8 @@
 // may have, and goes on with the net that was read, which is checked as it is read and not again; a refusal of reading
 // is the answer, and then nothing lent is changed. None asks anything of what is lent.
 // Thin over `reading`, `writing`, `building` and `margins`; the program and the library for C stand on it.
+#![tactic(auto)]
+
 ghost use Rattle.std.specs.Prelude.{◌≡◌, length};
 ghost use Rattle.net.specs.Net.{every, most_posts, most_segments};
 ghost use Rattle.net.specs.Building.{margin_of};
@@ -20,7 +22,7 @@ use writing::WriteAnswer;
 
 // The net's head and the number of its segments, "length and radius of each tree and the count of laid paths", or a
 // refusal.
-#[derive(Drop)]
+#[derive(Clone, Copy)]
 pub enum PlanAnswer {
     Planned {
         head: Head,

@@ -3,6 +3,8 @@
 // and `write` take the ratios and the segments from there, and `read` lays them there. Each is a crossing of the crate
 // `crossings` and the function over plain lists that does the work; none asks anything of what is lent, and a list of
 // segments that is too long is refused with 4.
+#![tactic(auto)]
+
 ghost use Rattle.std.specs.Prelude.{◌≡◌, length, replicate};
 ghost use Rattle.crossings.specs.Lists.{net_on, Places};
 ghost use Rattle.net.specs.Net.{every, most_segments};

@@ -1,6 +1,8 @@
 // What the program prints, for a record of either form. The program reads at most 15,372 bytes, "which is enough for a
 // last segment of three four-byte numbers, so its answer is the reader's answer on the whole input." Thin over
 // `on_records` and `lines`; the program reads into the room that is named here, and prints what is put here.
+#![tactic(auto)]
+
 ghost use Rattle.std.specs.Prelude.{◌≤◌, length as size};
 ghost use Rattle.lines.specs.Putting.{Put, most_text};
 ghost use Rattle.printing.specs.Printed.{printed, Prints};

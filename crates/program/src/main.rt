@@ -1,5 +1,7 @@
 // The program: reads one record, of either form, from standard input and prints the trees, or the one line of a
 // refusal. Thin over `printing`, which says how much is read and what is printed.
+#![tactic(auto)]
+
 use libc::{STDIN_FILENO, STDOUT_FILENO};
 use printing::{ENOUGH_BYTES, MOST_TEXT, print};
 

@@ -7,6 +7,8 @@
 // a good record's ratios and segments over lent lists, and nothing before the whole record is found good;
 // `check_record` only says whether it is. Relies on `checks`, on `numbers` and, for the walks over a reader, on
 // `by_hand`; for the laws about both ways, in proofs/, on `writing`.
+#![tactic(auto)]
+
 ghost use Rattle.std.specs.Prelude.{◌≡◌, ◌<◌, ◌≤◌, ◌++◌, length, drop, eqb};
 ghost use Rattle.net.specs.Net.{most_posts, most_segments, own_of};
 ghost use Rattle.net.specs.Ready.{ratios_by};
@@ -28,21 +30,21 @@ use numbers::Numbered;
 use numbers::reader::{Reader, behind, moved, new, number};
 
 // Three numbers in a row and the place after them, or the refusal.
-#[derive(Drop)]
+#[derive(Clone, Copy)]
 enum Three {
     Numbers { a: u32, b: u32, c: u32, next: usize },
     Refused(Refusal),
 }
 
 // The head, the number of segments and the place after it, or the refusal.
-#[derive(Drop)]
+#[derive(Clone, Copy)]
 enum HeadRead {
     Read { head: Head, count: u32, next: usize },
     Refused(Refusal),
 }
 
 // A post's own ratio and the place after it; nothing for the source; or the refusal.
-#[derive(Drop)]
+#[derive(Clone, Copy)]
 enum PostRead {
     Read { p: u32, q: u32, next: usize },
     Source,
@@ -50,21 +52,21 @@ enum PostRead {
 }
 
 // The place after the posts' own ratios or after the segments, or the refusal.
-#[derive(Drop)]
+#[derive(Clone, Copy)]
 enum RowRead {
     Read { next: usize },
     Refused(Refusal),
 }
 
 // A segment and the place after it, or the refusal.
-#[derive(Drop)]
+#[derive(Clone, Copy)]
 enum SegmentRead {
     Read { segment: Segment, next: usize },
     Refused(Refusal),
 }
 
 // All of a net but its segments, and how many they are; or the refusal.
-#[derive(Drop)]
+#[derive(Clone, Copy)]
 pub enum ReadAnswer {
     Read { head: Head, count: u32 },
     Refused(Refusal),

@@ -4,6 +4,8 @@
 // Posts are settled one after the other, the nearest first; a ladder of the open posts says which is nearest: at 256
 // posts and 2,048 segments some 10,000 steps for a search. Relies on `hanging`, which hangs the posts by the lengths
 // found here.
+#![tactic(auto)]
+
 ghost use Rattle.std.specs.Prelude.{◌≡◌, List, ◌++◌, ℕ, ◌*◌, ◌<◌, ◌≤◌, length, drop};
 ghost use Rattle.net.specs.Net.{most_posts, most_segments, every};
 ghost use Rattle.net.specs.Ready.{segments_by};

@@ -3,6 +3,8 @@
 // segments that belong come from `lightest`, and a walk along them hangs the lightest tree; the other two trees come
 // from `shortest` and `between`. Which ratio is a post's is said here (`number_for`). Stands below `building` and
 // `margins`; asks what `checks` has shown (`Ready`), and a ratio for each post.
+#![tactic(auto)]
+
 ghost use Rattle.std.specs.Prelude.{◌≡◌, true, false, ℕ, ◌<◌, ◌≤◌, ◌++◌, length as size, drop};
 ghost use Rattle.net.specs.Net.{every, most_posts};
 ghost use Rattle.net.specs.Building.{lightest_of, between_of, laid_of};
@@ -19,7 +21,7 @@ use net::{Form, Head};
 pub const MOST_POSTS: usize = shortest::MOST_POSTS;
 
 // What the preparation answers: all posts are joined, with the count of laid paths, or the lowest post that isn't.
-#[derive(Drop)]
+#[derive(Clone, Copy)]
 pub enum Prepared {
     Joined(u32),
     Apart(u32),

@@ -4,6 +4,8 @@
 // function promises is an equation with a definition of specs/; `write` asks nothing, and `write_sound` only what the
 // checks have shown. Relies on `checks` for 1 to 7 and on `numbers`; `reading`, which reads a record and has the laws
 // about both ways, stands above it.
+#![tactic(auto)]
+
 ghost use Rattle.std.specs.Prelude.{◌≡◌, ◌+◌, ◌*◌, ◌<◌, ◌≤◌, ltb, length};
 ghost use Rattle.net.specs.Net.{most_posts, most_segments, own_of};
 ghost use Rattle.net.specs.Ready.{Ready, ratios_by, ratio_count_by, segments_by, count_by, net_by};
@@ -21,7 +23,7 @@ use net::{Checked, Form, Head, Refusal, Segment};
 use numbers::{number_size, put_at};
 
 // The length of the record that was written, or the refusal.
-#[derive(Drop)]
+#[derive(Clone, Copy)]
 pub enum WriteAnswer {
     Written(u32),
     Refused(Refusal),
