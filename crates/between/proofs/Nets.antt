@@ -1,6 +1,6 @@
 -- The third tree of a net: over net's own lightest tree, shortest tree and least lengths the walk in code is net's walk where the lists have each post's ratio (`walked_of_net`), and a net that
 -- nothing from 1 to 7 refuses is all that the code asks for, beside lists with a ratio for each post (`net_walkable`). Relies on net's laws of least lengths and of what a walk is owed; `third_tree`'s caller cites both.
-use mathlib.Core.Path.{◌≡◌, refl, sym, ap, ◌∙◌}
+use mathlib.Core.Path.{◌≡◌, refl, sym, ◌∙◌}
 use mathlib.Core.Bool.{true}
 use mathlib.Core.List.{List}
 use Prim.Native.Nat.{ℕ, ◌≤◌, ◌<◌}
@@ -10,7 +10,7 @@ use lib.ListN.{length, get_or, get_or-eq_default}
 use Rattle.net.specs.Words.{no_segment}
 use Rattle.net.specs.Net.{Ratio, Net, segments_of, length_at, other, every}
 use Rattle.net.specs.Rules.{NetSound}
-use Rattle.net.specs.Trees.{none_yet, at, entry, least, the_least_lengths, shortest}
+use Rattle.net.specs.Trees.{none_yet, at, entry, least, the_least_lengths}
 use Rattle.net.specs.Walk.{child}
 use Rattle.net.specs.Building.{p_of, q_of, lightest_of, shortest_of, least_lengths_of, given_with, walk_with, walk_of}
 use Rattle.net.specs.declared.Head.{Head}

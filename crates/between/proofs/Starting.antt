@@ -4,7 +4,7 @@
 use mathlib.Core.Path.{◌≡◌, refl, sym, ap, ◌∙◌}
 use mathlib.Core.Bool.{Bool, true, false, cond}
 use mathlib.Core.List.{List, ◌++◌}
-use Prim.Native.Nat.{ℕ, zero, suc, ◌+◌, ◌*◌, ◌/◌, ◌≤◌, ◌<◌}
+use Prim.Native.Nat.{ℕ, zero, suc, ◌+◌, ◌*◌, ◌≤◌, ◌<◌}
 use native.Mathlib.Omega.{arith}
 use native.Mathlib.Nat.{mul-le-mul, mul_comm, div-lt_iff_lt-mul}
 use native.Mathlib.Decide.{dec_lt, ℕ_discrete}
@@ -13,14 +13,14 @@ use lib.ListN.{length, get_or, take, drop, set, replicate, length-take, length-s
 use lib.Seq.{ext_get_or, get_or-take, get_or-set_same, get_or-set_other}
 use borrow.Author.Tests.{eq-eqb, ne_eqb, ltb-true, ltb-false, lt-ltb, le-ltb}
 use Rattle.net.specs.Words.{tab, no_segment}
-use Rattle.net.specs.Net.{segments_of, other, length_at}
+use Rattle.net.specs.Net.{segments_of, other}
 use Rattle.net.specs.Trees.{none_yet, at, entry, parent}
 use Rattle.net.specs.Walk.{Notes, Given, at_start, child, walk}
 use Rattle.net.proofs.Words.{tab_at, length_tab}
 use Rattle.between.specs.Given.{notes_of, Shows, Lists, EndsIn, the_end_beyond, parents_by, limit_by, limits_by, given_of}
-use Rattle.between.specs.Laying.{depth, Late, Deeper, Layable, Direct, Entering}
+use Rattle.between.specs.Laying.{depth, Late, Deeper, Direct, Entering}
 use Rattle.between.specs.Children.{Indexed}
-use Rattle.between.specs.Asked.{Shown, Turned, Walkable, Tables, walked_of, ThirdTree}
+use Rattle.between.specs.Asked.{Turned, Walkable, Tables, walked_of, ThirdTree}
 use Rattle.between.proofs.Lists.{lists_of}
 use Rattle.between.proofs.Trying.{other_is}
 use Rattle.between.proofs.Counting.{laid_most}

@@ -1,11 +1,11 @@
 -- What the code of try, lay and enter does on each of its ways, as equations with the definitions; and that direct paths can still be laid afterwards.
 -- Relies on Lists and on net's laws of the steps (`try_lower`, `enter_lower`).
 use mathlib.Core.Path.{◌≡◌, refl, sym, ap, ◌∙◌}
-use mathlib.Core.Bool.{Bool, true, false, cond}
+use mathlib.Core.Bool.{Bool, true, false}
 use mathlib.Core.List.{List}
 use Prim.Native.Nat.{ℕ, zero, suc, ◌+◌, ◌-◌, ◌*◌, ◌≤◌, ◌<◌}
 use native.Mathlib.Omega.{arith}
-use lib.Dec.{eqb, ltb}
+use lib.Dec.{ltb}
 use lib.ListN.{length, get_or, set}
 use borrow.Author.Tests.{le-ltb, lt-ltb}
 use Rattle.net.specs.Net.{length_at, other}

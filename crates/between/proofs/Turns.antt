@@ -1,6 +1,6 @@
 -- The loop over the children of a post: its invariant (`Along`), where it begins (`along_start`), one turn of it, which is one leg (`along_turn`),
 -- and where it ends (`along_end`). Relies on Legs and Trying; the proof of `walk_from` cites it.
-use mathlib.Core.Path.{◌≡◌, refl, sym, ap, ◌∙◌}
+use mathlib.Core.Path.{◌≡◌, sym, ap, ◌∙◌}
 use mathlib.Core.Bool.{true, false, cond}
 use mathlib.Core.List.{List}
 use Prim.Native.Nat.{ℕ, suc, ◌+◌, ◌-◌, ◌≤◌, ◌<◌}
@@ -10,8 +10,8 @@ use lib.ListN.{length, get_or}
 use borrow.Author.Tests.{eq-eqb, ne_eqb}
 use Rattle.net.specs.Words.{no_segment}
 use Rattle.net.specs.Net.{length_at, other}
-use Rattle.net.specs.Trees.{at, entry}
-use Rattle.net.specs.Walk.{Notes, Given, try, count, enter, child, walk}
+use Rattle.net.specs.Trees.{entry}
+use Rattle.net.specs.Walk.{Notes, Given, try, enter, child, walk}
 use Rattle.net.proofs.Steps.{try_laid}
 use Rattle.between.specs.Given.{notes_of, Shows}
 use Rattle.between.specs.Laying.{Layable}
