@@ -10,9 +10,9 @@ use lib.ListN.{length, set, take, drop}
 use lib.Seq.{get_or-set_other}
 use lib.Dec.{eqb}
 use borrow.Author.Tests.{eq-eqb, ne_eqb}
-use Rattle.net.specs.Words.{each, only, lowest, no_segment}
+use Rattle.net.specs.Words.{only, lowest, no_segment}
 use Rattle.net.specs.Net.{segments_of}
-use Rattle.net.specs.Trees.{none_yet, at, fits, hung}
+use Rattle.net.specs.Trees.{none_yet, fits, hung}
 use Rattle.net.proofs.Words.{tab_at}
 use Rattle.net.proofs.Hung.{length_hung}
 use Rattle.hanging.specs.Lists.{flag, note, Filled, Sides, Low}

@@ -1,7 +1,7 @@
 -- What an answer says in document 01's words.
 use Prim.Native.Nat.{ℕ}
 use mathlib.Core.Path.{◌≡◌, refl}
-use Rattle.numbers.specs.Numbers.{Got, got, refused, number}
+use Rattle.numbers.specs.Numbers.{Got, got, refused}
 use Rattle.numbers.specs.Answers.{numbered_of, says_numbered}
 
 -- the definitions' number or refusal
