@@ -26,6 +26,7 @@ module _ (m : ℕ) (n : Net) (k room : ℕ) where
   few_ratios : {r : Refusal} → FirstOf room_at (some r) → NetSound every m n → WriteRule m n k room (some r)
   unfolding room_of_ratios
   few_ratios (here p) z = R.WriteRule.eight z (ltb-true _ _ p)
+  few_ratios {r = r} (below _ x) z = elim x [ ]
 
   enough : FirstOf room_at none → n.head.posts ≤ k
   unfolding room_of_ratios

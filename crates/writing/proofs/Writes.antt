@@ -9,7 +9,7 @@ use native.Mathlib.Omega.{arith}
 use lib.Dec.{ltb}
 use lib.ListN.{length, take, length-append}
 use borrow.Author.Tests.{ltb-true, ltb-false}
-use Rattle.net.specs.Net.{Ratio, Net, every, ratio_at, ratios_of, own_of, segments_of}
+use Rattle.net.specs.Net.{Ratio, Net, ratio_at, ratios_of, own_of, segments_of}
 use Rattle.net.specs.Ready.{net_at, Ready}
 use Rattle.net.specs.Refusals.{refusal, check_of}
 use Rattle.net.specs.Rules.{RatioSound}
@@ -18,9 +18,9 @@ use Rattle.net.specs.declared.Head.{Head}
 use Rattle.net.specs.declared.Form.TheVariants.{Second}
 use Rattle.net.specs.declared.Refusal.{Refusal}
 use Rattle.net.specs.declared.Checked.{Checked}
-use Rattle.net.specs.declared.Checked.TheVariants.{Sound, Refused}
+use Rattle.net.specs.declared.Checked.TheVariants.{Refused}
 use Rattle.numbers.specs.Putting.{put, onto}
-use Rattle.writing.specs.Writing.{form_written, numbers_written, head_written, own_written, segments_written, net_written, write_refusal, the_room_after, HeadFits, OwnSmall, SegmentsFit}
+use Rattle.writing.specs.Writing.{form_written, numbers_written, head_written, own_written, segments_written, net_written, the_room_after, HeadFits, OwnSmall, SegmentsFit}
 use Rattle.writing.specs.Answers.{write_answer_of, Writes}
 use Rattle.writing.specs.Rules.{WriteRule}
 use Rattle.writing.specs.Rules as R
@@ -28,7 +28,7 @@ use Rattle.writing.specs.declared.WriteAnswer.{WriteAnswer}
 use Rattle.writing.specs.declared.WriteAnswer.TheVariants.{Written, Refused as WriteRefused}
 use Rattle.net.proofs.Own.{own_count, own_at}
 use Rattle.net.proofs.Checks.{check_faulty}
-use Rattle.net.proofs.Ready.{ready_cut, ready_count, ready_few, cut_same}
+use Rattle.net.proofs.Ready.{ready_count, ready_few, cut_same}
 use Rattle.writing.proofs.Puts.{wrote_more, wrote_first, wrote_as, put_onto}
 use Rattle.writing.proofs.RuledWriting.{write_only}
 use Rattle.writing.proofs.Outcomes.{sound_writes}
