@@ -61,7 +61,7 @@ pos_is a h = rw (lt-ltb a (2 ^ 63) (omega arith))
 
 -- bits of a whole number that fits, read back
 pub back : (z : ℤ) → mag z < 2 ^ 63 → to_z w64 (of_z w64 z) ≡ z
-back z f = to_z-of_z (record { sfits = f })
+back z f = to_z-of_z {w = w64} (record { sfits = f })
 
 pub difference_is : (a b : ℕ) → a < 9223372036854775808 → b < 9223372036854775808 → to_z w64 (of_z w64 (pos a -ℤ pos b)) ≡ sub_ℕ a b
 difference_is a b ha hb = back (pos a -ℤ pos b) (difference_fits a b ha hb).sfits ∙ minus_is a b

@@ -1,5 +1,5 @@
 -- An answer of the code says neither more nor less than one of document 01 (`says_margin_answer`, `margin_answer_says`).
-use mathlib.Core.Path.{◌≡◌, refl, sym, ◌∙◌}
+use mathlib.Core.Path.{◌≡◌, refl}
 use Prim.Native.Nat.{ℕ}
 use Rattle.net.specs.Net.{Net, every}
 use Rattle.net.specs.Building.{margin_of}
