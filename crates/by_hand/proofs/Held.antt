@@ -11,7 +11,7 @@ use Prim.Native.Nat.{ℕ}
 use mathlib.Core.List.{List, [], ◌∷◌, ◌++◌}
 use lib.ListN.{length}
 use seplogic.Ra.Ura.{Ura}
-use mir.Syntax.{Name, Fn, Opd as Operand, Place, Body, seq, call, named}
+use mir.Syntax.{Callee as Name, Fn, Opd as Operand, Place, Body, seq, call, named}
 use mir.Val.{Val}
 use base.Logic.{SProp, ent, sep, emp, id⊢, via, comm∗, mono∗, mono_l, mono_r, emp∗}
 use prog.Wp.{Env, Calls, WpFn, Tables, Closed}
@@ -109,7 +109,7 @@ over n ks k = record { signature = record { lifetimes = n; outlives = []; params
 -- WHAT THE PARAMETERS OWN, an entry for each
 module _ {M : Type 1} (𝓤 : Ura M) {n : ℕ} (κs : Lfts n) where
   abbrev pub own_of : (k : Held n) → (k.row κs).Denot → Item 𝓤
-  own_of k x = ‵ ((k.row κs).own x (k.val κs x ∷ []))
+  own_of k x = ‵ ((k.row κs).own_val x (k.val κs x ∷ []))
 
   abbrev pub owneds : (ks : List (Held n)) → Denoted κs ks → List (Item 𝓤)
   owneds [] a = []
@@ -221,10 +221,10 @@ module _ {M : Type 1} {𝓤 : Ura M} {𝓛 : Logic 𝓤} {K : Type 0} where
       (via 𝓤 _ (⊢++ 𝓛 (tokens 𝓤 n κs qs) (owneds 𝓤 κs ks a)) (via 𝓤 _ (mono∗ 𝓤 (toks_in 𝓛 n κs qs) (owns_in 𝓛 κs ks a))
       (qed 𝓛 (raw (toks 𝓛 n κs qs) ∷ ‵ (owns (types_at (slots ks) κs) a (vals κs ks a)) ∷ []) ∵ join ! $ use0 𝓛 (raw ((c κs a).requires g)) req $ move ! (1 ∷ 0 ∷ []) $ done !))) $
       calls_at t (fm_of 𝓤 H 𝓛.laws 𝓣) (triple_of 𝓛 T.signature (closing 𝓛 T c)) G.met ((κs, qs, tt, a, vals κs ks a), g) os (λ v.
-      use1 𝓛 (later (some (λ (r : R.Denot). (raw (toks 𝓛 n κs qs) ⊛ ‵ (R.own r (v ∷ []))) ⊛ some (λ (ws : Ends κs ks a). ‵ (lasts_of κs (slots ks) (kepts ks) a ws) ⊛ raw ((c κs a).ensures g r (at_exit T κs a ws)))))) (id⊢ 𝓤 _) $ await t tt $ pick t (λ r.
+      use1 𝓛 (later (some (λ (r : R.Denot). (raw (toks 𝓛 n κs qs) ⊛ ‵ (R.own_val r (v ∷ []))) ⊛ some (λ (ws : Ends κs ks a). ‵ (lasts_of κs (slots ks) (kepts ks) a ws) ⊛ raw ((c κs a).ensures g r (at_exit T κs a ws)))))) (id⊢ 𝓤 _) $ await t tt $ pick t (λ r.
       split t $ move t (1 ∷ []) $ pick t (λ ws. split t $ drop t $ use1 𝓛 (raw (fact 𝓤 (r ≡ x))) (says r ws) $ heard t (r ≡ x) (λ e. split t $ move t (1 ∷ []) $
       -- [what the result owns; the tokens; …]
-      rewrite t 0 (λ (y : R.Denot). ‵ (R.own y (v ∷ []))) e refl $ peeks t R (Is R) (shows 𝓛 R) x (v ∷ []) (λ is.
+      rewrite t 0 (λ (y : R.Denot). ‵ (R.own_val y (v ∷ []))) e refl $ peeks t R (Is R) (shows 𝓛 R) x (v ∷ []) (λ is.
       let here = G.result.tells κs x (v ∷ []) is in
-      rewrite t 0 (λ (us : List Val). ‵ (R.own x us)) here refl $ regoal t (λ (u : Val). lands 𝓣.C 𝓣.Λ E d u rest q) (ap only here) refl $
+      rewrite t 0 (λ (us : List Val). ‵ (R.own_val x us)) here refl $ regoal t (λ (u : Val). lands 𝓣.C 𝓣.Λ E d u rest q) (ap only here) refl $
       move t (1 ∷ []) $ use1 𝓛 (raw (⋆ 𝓛 (tokens 𝓤 n κs qs))) (toks_out 𝓛 n κs qs) $ move t (1 ∷ 0 ∷ []) $ of_next t (tokens 𝓤 n κs qs) $ k (subst (Is R x) here is))))))

@@ -4,7 +4,7 @@
 --     holds, fails     the test's outcome.        tests        the test of a `while`, where its outcome isn't known
 --     array_open       a local array that was stored whole, as its elements.        array_shut       and back
 --     finishes         a `&mut [T]` that was closed is given up at its last list
---     lends, returned  elements that the function owns are lent as a `&[T]` for a call, and come back.        lends_mut, returned_mut      as a `&mut [T]`
+--     lends, returned  elements that the function owns are lent as a `&[T]` for a call, and come back: their type is one that is shared out with a token of any lifetime (`denote.Shares`).        lends_mut, returned_mut      as a `&mut [T]`
 --     lends_array, array_back      the same of a local array.        lends_array_mut, array_back_mut
 --     data_copy        data can be copied
 -- Rests on `Params` and on the kit's rules for loops, arrays and borrows. Assumes `Logic`.
@@ -14,16 +14,16 @@ use native.Mathlib.Nat.{eq-or-lt_of_le}
 use native.Mathlib.Omega.{arith}
 use mathlib.Core.Bool.{Bool, true, false}
 use mathlib.Core.Logic.{◌⊎◌, inl, inr}
-use mathlib.Core.List.{List, [], ◌∷◌, map}
+use mathlib.Core.List.{List, [], ◌∷◌, map, not-mem-nil}
 use lib.ListN.{length}
 use lib.WfN.{lt-wf_rel}
 use lib.Dec.{T, T_not}
 use seplogic.Ra.Ura.{Ura}
-use seplogic.Ra.TreeShare.{full_share}
+use base.Fraction.{full_share}
 use mir.Syntax.{Opd as Operand, Body, seq, skip, exit, cond, block, loop, ty_array, named}
 use mir.Val.{Val, vbool}
 use base.Logic.{SProp, ent, ex, guard, via, ex_i, ex_e, guard_i, guard_e}
-use base.Fml.{GName, fat, fres, fobs, flft, flent}
+use base.Fml.{GName, Incl-refl, fat, fres, fobs, flft, flent}
 use prog.Wp.{Out, next, exits, Env, Calls, Loops, after_seq, after_block, after_turn, Wp, Tables}
 use types.Logic.{Logic}
 use sound.Loop.{loop_rule}
@@ -32,6 +32,7 @@ use types.Run.{Opd, first, branches, skips, jumps}
 use types.Share.{arr_parts}
 use types.Tokens.{lft_new, lft_end, lent_back}
 use types.SemTy.{cells, Arr}
+use denote.Shares.{Shares}
 use denote.Lend.{Held, lends_slice, slice_back, lends_shr_slice}
 use denote.RattleType.{RattleType}
 use denote.Slice.{ShrSlice, MutSlice, slice_val, Room, finally, res-finally, coded_holeys, heres}
@@ -130,12 +131,12 @@ module _ {M : Type 1} {𝓤 : Ura M} {𝓛 : Logic 𝓤} {K : Type 0} where
     finishes t R γ ys = step (λ s. use1 𝓛 (‵ (fres γ ((coded_holeys R).code (heres R ys)))) (𝓛.names.obs-res γ ((coded_holeys R).code (heres R ys))) $ use1 𝓛 (‵ (finally R γ ys)) (res-finally 𝓛 (named 0) [] R γ ys) $ s)
 
     -- elements that the function owns are lent for a lifetime that is made for a call, as a `&[T]`, and come back
-    pub lends : K → Soaks G → (R : RattleType) (ys : List R.Denot) (b o : ℕ) → Room R (length ys)
+    pub lends : K → Soaks G → (R : RattleType) → Shares 𝓛 R [] → (ys : List R.Denot) (b o : ℕ) → Room R (length ys)
         → ((α : ℕ) (γ : GName) → Seq K 𝓛 (‵ (flft (α ∷ []) full_share) ∷ ‵ ((ShrSlice (named 0) (α ∷ []) R).own_val (record { ref_ptr = (b, o); now = ys }) (slice_val (b, o) (length ys) ∷ [])) ∷ ‵ (flent (α ∷ []) ((arr_parts (shares R) (length ys)).part full_share ys b o)) ∷ Γ) G)
         → Seq K 𝓛 (‵ (row R full_share ys b o) ∷ Γ) G
-    lends t z R ys b o g k = feq_i t ℕ (length ys) (length ys) refl $ fjoin t $ lft_new t z (λ α. move t (1 ∷ []) $
-        use1 𝓛 (later (some (λ (γ : GName). ‵ ((ShrSlice (named 0) (α ∷ []) R).own_val (record { ref_ptr = (b, o); now = ys }) (slice_val (b, o) (length ys) ∷ [])) ⊛ ‵ (flent (α ∷ []) ((arr_parts (shares R) (length ys)).part full_share ys b o)))))
-        (lends_shr_slice 𝓛 R (named 0) (α ∷ []) full_share ys b o g) $ await t z $ pick t (λ γ. split t $ move t (2 ∷ 0 ∷ 1 ∷ []) $ k α γ))
+    lends t z R s ys b o g k = feq_i t ℕ (length ys) (length ys) refl $ fjoin t $ lft_new t z (λ α. move t (1 ∷ 0 ∷ []) $
+        use2 𝓛 (later ((‵ ((ShrSlice (named 0) (α ∷ []) R).own_val (record { ref_ptr = (b, o); now = ys }) (slice_val (b, o) (length ys) ∷ [])) ⊛ ‵ (flent (α ∷ []) ((arr_parts (shares R) (length ys)).part full_share ys b o))) ⊛ ‵ (flft (α ∷ []) full_share)))
+        (lends_shr_slice 𝓛 R (named 0) (α ∷ []) full_share ys b o g [] s ((α ∷ [], full_share) ∷ []) (λ a m. absurd (not-mem-nil m)) (Incl-refl (α ∷ []))) $ await t z $ split t $ split t $ move t (2 ∷ 0 ∷ 1 ∷ []) $ k α 0)
 
     pub returned : K → Soaks G → (R : RattleType) (ys : List R.Denot) (b o : ℕ) {α : ℕ} → Step K 𝓛 (‵ (row R full_share ys b o) ∷ Γ) G (‵ (flft (α ∷ []) full_share) ∷ ‵ (flent (α ∷ []) ((arr_parts (shares R) (length ys)).part full_share ys b o)) ∷ Γ) G
     returned t z R ys b o = step (λ s. lft_end t z $ lent_back t z $ fsplit t $ drop t $ s)
@@ -153,11 +154,11 @@ module _ {M : Type 1} {𝓤 : Ura M} {𝓛 : Logic 𝓤} {K : Type 0} where
     returned_mut t z R zs n b o {α} {γ} = step (λ s. lft_end t z $ use3 𝓛 (later (‵ ((Arr (mem R) n).own_at zs b o))) (slice_back 𝓛 R (α ∷ []) γ zs n b o) $ await t z $ fsplit t $ drop t $ use1 𝓛 (‵ (row R full_share zs b o)) (whole_out 𝓛 R zs b o) $ s)
 
     -- the same of a local array: it is lent, and comes back whole
-    pub lends_array : K → Soaks G → (D : Data) (n : ℕ) → Single D.row.mir → (xs : List D.row.Denot) (b : ℕ) → Is (Array D.row n) xs (array_val (map D.val xs) ∷ []) → Room D.row n
+    pub lends_array : K → Soaks G → (D : Data) → Shares 𝓛 D.row [] → (n : ℕ) → Single D.row.mir → (xs : List D.row.Denot) (b : ℕ) → Is (Array D.row n) xs (array_val (map D.val xs) ∷ []) → Room D.row n
         → ((α : ℕ) (γ : GName) → Seq K 𝓛 (‵ (flft (α ∷ []) full_share) ∷ ‵ ((ShrSlice (named 0) (α ∷ []) D.row).own_val (record { ref_ptr = (b, 0); now = xs }) (slice_val (b, 0) (length xs) ∷ []))
         ∷ ‵ (flent (α ∷ []) ((arr_parts (shares D.row) (length xs)).part full_share xs b 0)) ∷ Γ) G)
         → Seq K 𝓛 (‵ (fat full_share (ty_array (lone D.row.mir) n) b 0 (array_val (map D.val xs))) ∷ Γ) G
-    lends_array t z D n one xs b is g k = array_open t D n one xs b is $ lends t z D.row xs b 0 (subst (Room D.row) (sym is.1.0.1) g) k
+    lends_array t z D s n one xs b is g k = array_open t D n one xs b is $ lends t z D.row s xs b 0 (subst (Room D.row) (sym is.1.0.1) g) k
 
     pub array_back : K → Soaks G → (D : Data) (n : ℕ) (xs : List D.row.Denot) (b : ℕ) {α : ℕ} → length xs ≡ n
         → (Is (Array D.row n) xs (array_val (map D.val xs) ∷ []) → Seq K 𝓛 (‵ (fat full_share (ty_array (lone D.row.mir) n) b 0 (array_val (map D.val xs))) ∷ Γ) G)

@@ -1,7 +1,7 @@
 -- What a thin function takes and gives: plain data, lent slices, plain data back. It says nothing of the crate.
 --     Data             a type that owns only facts.       number w, truth, unit, struct T, enum T, array D n
 --     Held n           a type that may hold a `&`, over n lifetimes: what a value of it owns is not made anew of its facts
---     Kind n           a parameter: data, a `&[T]`, a `&mut [T]` (which the body passes on for good), a `Held` that goes, of a function of n lifetimes
+--     Kind n           a parameter: data, a `&[T]` (with the laws by which it can be had twice), a `&mut [T]` (which the body passes on for good), a `Held` that goes, of a function of n lifetimes
 --     thin n ks D      the `Ended` of a function of n lifetimes, the parameters ks and the result D: a generated `ended` is one by computation
 --     facts, lens      of each parameter that is data its relation; of each `&mut [T]` that its last list is as long as the first
 -- Rests on the kit's types and their laws (`denote`). Assumes nothing.
@@ -15,10 +15,10 @@ use mir.Val.{Val, vunit, vbool, vint}
 use base.Fml.{ftrue}
 use types.Logic.{Logic}
 use contract.Lifetimes.{Lfts, Within, lft_at}
-use denote.RattleType.{RattleType, Denots, Valss, flat}
+use denote.RattleType.{RattleType, RowLaws, Denots, Valss, flat}
 use denote.Laws.{Is, Tells, Makes, Lawful, Spells, Tellss, Ises, Are, valss}
 use denote.Exit.{yes, Exit, unchanged, Last, left, each_of}
-use denote.Slice.{shr_slice_vals, mut_slice_Tells, shr_slice_Tells}
+use denote.Slice.{shr_slice_vals, mut_slice_vals, mut_slice_Tells, shr_slice_Tells}
 use denote.Plain.{UInt, uint_Tells, uint_Lawful, uint_Makes, Boolean, bool_Tells, bool_Lawful, bool_Makes, Nothing, Nothing-Tells, Nothing-Lawful, Nothing-Makes}
 use denote.Array.{Array, array_val, Array-Tells, Array-Lawful, Array-Makes}
 use denote.Signature.{Slot, plain, mut_slice_of, shr_slice_of, types_at}
@@ -83,14 +83,14 @@ held_silent k κs x = subst (λ (e : Exit (k.row κs).Denot). (f : Last e x) →
 -- PARAMETERS
 pub data Kind (n : ℕ) : Type 2 where
   dat : Data → Kind n
-  shr : (j : ℕ) → Within n j → RattleType → Kind n
+  shr : (j : ℕ) → Within n j → (R : RattleType) → RowLaws R → Kind n
   own : (j : ℕ) → Within n j → RattleType → Kind n
   hld : Held n → Kind n
 
 module _ {n : ℕ} where
   abbrev pub slot : Kind n → Slot n
   slot (dat D) = plain (λ _. D.row)
-  slot (shr j ok R) = shr_slice_of (j ∷ []) ok (plain (λ _. R))
+  slot (shr j ok R L) = shr_slice_of (j ∷ []) ok (plain (λ _. R))
   slot (own j ok R) = mut_slice_of (j ∷ []) ok (plain (λ _. R))
   slot (hld k) = plain k.row
 
@@ -104,7 +104,7 @@ module _ {n : ℕ} where
 
   abbrev pub stay : (k : Kind n) → Stay (slot k) yes
   stay (dat D) = stay_none (λ _. D.row) yes
-  stay (shr j ok R) = stay_none_slice (j ∷ []) ok (plain (λ _. R)) yes
+  stay (shr j ok R L) = stay_none_slice (j ∷ []) ok (plain (λ _. R)) yes
   stay (own j ok R) = gave_slice (j ∷ []) ok (plain (λ _. R))
   stay (hld k) = stay_dropped (plain k.row) yes
 
@@ -115,8 +115,8 @@ module _ {n : ℕ} where
   module _ (κs : Lfts n) where
     abbrev spell : (k : Kind n) → ((slot k).row κs).Denot → List Val
     spell (dat D) x = D.val x ∷ []
-    spell (shr j ok R) x = shr_slice_vals x
-    spell (own j ok R) x = shr_slice_vals x
+    spell (shr j ok R L) x = shr_slice_vals x
+    spell (own j ok R) x = mut_slice_vals x
     spell (hld k) x = k.val κs x ∷ []
 
     abbrev pub spells : (ks : List (Kind n)) → Spells (types_at (slots ks) κs)
@@ -125,7 +125,7 @@ module _ {n : ℕ} where
 
     tell : (k : Kind n) → Tells ((slot k).row κs) (Is ((slot k).row κs)) (spell k)
     tell (dat D) = D.tells
-    tell (shr j ok R) = shr_slice_Tells (named j) (lft_at n j ok κs) R
+    tell (shr j ok R L) = shr_slice_Tells (named j) (lft_at n j ok κs) R
     tell (own j ok R) = mut_slice_Tells (named j) (lft_at n j ok κs) R
     tell (hld k) = k.tells κs
 
@@ -152,28 +152,28 @@ module _ {n : ℕ} where
     abbrev pub facts : (ks : List (Kind n)) → Denoted ks → Type 0
     facts [] a = Unit {0}
     facts (dat D ∷ ks) a = Is D.row a.0 (D.val a.0 ∷ []) × facts ks a.1
-    facts (shr j ok R ∷ ks) a = facts ks a.1
+    facts (shr j ok R L ∷ ks) a = facts ks a.1
     facts (own j ok R ∷ ks) a = facts ks a.1
     facts (hld k ∷ ks) a = facts ks a.1
 
     pub related_facts : (ks : List (Kind n)) (a : Denoted ks) → Related ks a → facts ks a
     related_facts [] a g = tt
     related_facts (dat D ∷ ks) a g = (g.0, related_facts ks a.1 g.1)
-    related_facts (shr j ok R ∷ ks) a g = related_facts ks a.1 g.1
+    related_facts (shr j ok R L ∷ ks) a g = related_facts ks a.1 g.1
     related_facts (own j ok R ∷ ks) a g = related_facts ks a.1 g.1
     related_facts (hld k ∷ ks) a g = related_facts ks a.1 g.1
 
     abbrev pub lens : (ks : List (Kind n)) (a : Denoted ks) → Ends ks a → Type 0
     lens [] a ws = Unit {0}
     lens (dat D ∷ ks) a ws = lens ks a.1 ws.1
-    lens (shr j ok R ∷ ks) a ws = lens ks a.1 ws.1
+    lens (shr j ok R L ∷ ks) a ws = lens ks a.1 ws.1
     lens (own j ok R ∷ ks) a ws = (length ws.0 ≡ length a.0.now) × lens ks a.1 ws.1
     lens (hld k ∷ ks) a ws = lens ks a.1 ws.1
 
     pub fit : (ks : List (Kind n)) (a : Denoted ks) (ws : Ends ks a) → lens ks a ws → fits_of κs (slots ks) (kepts ks) (stays ks) a ws
     fit [] a ws l = tt
     fit (dat D ∷ ks) a ws l = (tt, fit ks a.1 ws.1 l)
-    fit (shr j ok R ∷ ks) a ws l = (tt, fit ks a.1 ws.1 l)
+    fit (shr j ok R L ∷ ks) a ws l = (tt, fit ks a.1 ws.1 l)
     fit (own j ok R ∷ ks) a ws l = (l.0, fit ks a.1 ws.1 l.1)
     fit (hld k ∷ ks) a ws l = (tt, fit ks a.1 ws.1 l)
 

@@ -10,9 +10,9 @@ use Prim.Native.Nat.{ℕ, zero, ◌+◌, ◌<◌, ◌^◌}
 use mathlib.Core.List.{List, [], ◌∷◌, ◌++◌}
 use lib.Dec.{T}
 use seplogic.Ra.Ura.{Ura}
-use seplogic.Ra.TreeShare.{full_share}
+use base.Fraction.{full_share}
 use mathlib.Core.Option as Option
-use mir.Syntax.{Sym, Ty, Tys, tcons, tnil, ty_int, ty_struct, ty_ref, mut, w64, Lifetime, Width, Name, Fn, Local, local, field, deref, Place, place, Opd as Operand, copy, int_big, rv_opd, addr_of, aggregate, Body, seq, assign, call, named}
+use mir.Syntax.{Sym, Ty, Tys, tcons, tnil, ty_int, ty_struct, ty_ref, mut, w64, Lifetime, Width, Callee as Name, Fn, Local, local, field, deref, Place, place, Opd as Operand, copy, int_big, rv_opd, addr_of, aggregate, Body, seq, assign, call, named}
 use mir.Val.{Val, Vals, vint, vptr, vstruct, vcons, vnil, Fits, WT, has_ty}
 use prog.Memory.{field_at, field_of}
 use mir.Fields.{get_v, set_v}
@@ -28,7 +28,7 @@ use types.Part.{Part, agg, whole, sub, look_in}
 use types.Run.{Opd, Opds, look, load, addr, from, hop, fld, stop, of_opd, and_then, no_more, assigns, enter, alloc1, alloc0, params1, pass1, pass0, free1, init, forget}
 use denote.RattleType.{owns}
 use denote.Laws.{Typed, Is, shows}
-use denote.Slice.{slice_ty, slice_val, ShrSlice, finally, shr_slice_vals}
+use denote.Slice.{slice_ty, slice_val, ShrSlice, shr_slice_vals}
 use denote.Signature.{types_at}
 use denote.Steps.{facts as let_go, heard, nothing, only}
 use denote.Triple.Entry.{on_entry}
@@ -37,7 +37,7 @@ use denote.Triple.Spec.{triple_of}
 use denote.Triple.Clauses.{at_exit, closing}
 use denote.Triple.Call.{calls_at}
 use Rattle.by_hand.proofs.Params.{Kind, slots, kepts, Denoted, vals, passed, Ends, facts, lens, thin, dat, shr, own, hld}
-use Rattle.by_hand.proofs.Thin.{tokens, refs, keeps, lefts, cons_in, cons_out, toks_out, toks_in, owns_in, refs_keep, Callee}
+use Rattle.by_hand.proofs.Thin.{closed, tokens, refs, keeps, lefts, cons_in, cons_out, toks_out, toks_in, owns_in, refs_keep, Callee}
 
 -- A FUNCTION'S LOCALS, in order
 module _ {M : Type 1} (𝓤 : Ura M) (H : Heap 𝓤) where
@@ -214,11 +214,11 @@ module _ {M : Type 1} {𝓤 : Ura M} {𝓛 : Logic 𝓤} {K : Type 0} where
   lasts_open t κs [] a ws k = drop t $ drop t $ k tt
   lasts_open t κs (dat D ∷ ks) a ws k = fsplit t $ drop t $ lasts_open t κs ks a.1 ws.1 k
   lasts_open t κs (hld h ∷ ks) a ws k = fsplit t $ drop t $ lasts_open t κs ks a.1 ws.1 k
-  lasts_open t {n} κs (shr j ok R ∷ ks) a ws {Γ} k = fsplit t $ drop t $ move t (1 ∷ []) $
+  lasts_open t {n} κs (shr j ok R L ∷ ks) a ws {Γ} k = fsplit t $ drop t $ move t (1 ∷ []) $
       use1 𝓛 (‵ ((ShrSlice (named j) (lft_at n j ok κs) R).own_val a.0 (shr_slice_vals a.0)) ⊛ raw (⋆ 𝓛 (keeps 𝓤 κs ks a.1))) (pop 𝓛 (‵ ((ShrSlice (named j) (lft_at n j ok κs) R).own_val a.0 (shr_slice_vals a.0))) (keeps 𝓤 κs ks a.1)) $ split t $ move t (2 ∷ 1 ∷ []) $
       lasts_open t κs ks a.1 ws.1 (λ l. rises t (lefts 𝓤 κs ks a.1 ws.1) (‵ ((ShrSlice (named j) (lft_at n j ok κs) R).own_val a.0 (shr_slice_vals a.0))) Γ $ k l)
-  lasts_open t κs (own j ok R ∷ ks) a ws {Γ} k = fsplit t $ fsplit t $ move t (1 ∷ []) $ feq_l t (λ e. move t (1 ∷ 2 ∷ []) $
-      lasts_open t κs ks a.1 ws.1 (λ l. rises t (lefts 𝓤 κs ks a.1 ws.1) (‵ (finally R 0 ws.0)) Γ $ k (e, l)))
+  lasts_open t {n} κs (own j ok R ∷ ks) a ws {Γ} k = fsplit t $ fsplit t $ fsplit t $ move t (1 ∷ []) $ feq_l t (λ e. fjoin t $ move t (1 ∷ 2 ∷ []) $
+      lasts_open t κs ks a.1 ws.1 (λ l. rises t (lefts 𝓤 κs ks a.1 ws.1) (‵ (closed R (lft_at n j ok κs) a.0 ws.0)) Γ $ k (e, l)))
 
   pub calls : K → {E : Env 𝓤 H} {q : Post 𝓤 H} {f : Name} {xs : List Operand} {d : Place} {rest : Body} {Γ : List (Item 𝓤)} (𝓣 : Tables 𝓤 H) (G : Callee 𝓛 𝓣.C f)
       (κs : Lfts G.n) (qs : Shares G.n) (a : Denoted κs G.ks) (g : (G.clauses κs a).ghost) → facts κs G.ks a → ent 𝓤 (emp 𝓤) ((G.clauses κs a).requires g)

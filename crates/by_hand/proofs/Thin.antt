@@ -1,5 +1,5 @@
 -- From the walk of a thin function to its contract, and the contract as a caller's walk has it. It says nothing of the crate.
---     tokens, refs, lefts              the lifetimes' tokens; what the references and each `Held` own at entry; what is left of them at exit, where of each `&mut [T]` its last list is said
+--     tokens, refs, lefts              the lifetimes' tokens; what the references and each `Held` own at entry; what is left of them at exit, where of each `&mut [T]` its last list is said, with its borrow (`closed`)
 --     Walk             what the author of a walk proves.        solved        takes it to the function's statement
 --     Callee, callee   a function that meets its contract
 -- Rests on `Params` and on the kit's way from a walk to a contract (`denote.Triple`). Assumes `Logic`.
@@ -7,10 +7,15 @@ use mathlib.Core.Path.{◌≡◌}
 use Prim.Native.Nat.{ℕ, zero, suc}
 use mathlib.Core.List.{List, [], ◌∷◌, ◌++◌}
 use seplogic.Ra.Ura.{Ura}
-use mir.Syntax.{Name, Fn, named}
+use mir.Syntax.{Callee as Name, Fn, named}
 use mir.Val.{Val}
 use base.Logic.{SProp, ent, sep, emp, id⊢, via, comm∗, assoc', mono∗, mono_l, mono_r, snd∗, emp∗}
-use base.Fml.{Fml, flft}
+use lib.ListN.{length}
+use base.Fml.{Lft, Fml, fsep, flft, fbor}
+use types.SemTy.{Body, Arr}
+use types.Hole.{Holey}
+use denote.Ref.{MutBor}
+use denote.Memory.{mem}
 use prog.Wp.{Calls, WpFn, Tables, Closed}
 use prog.Model.{Model}
 use prog.Routine.{Routine, Env as Routines}
@@ -19,10 +24,10 @@ use types.Logic.{Logic, sem}
 use contract.Lifetimes.{Lfts, Shares, lft_at, toks}
 use sound.WpLaws.{WpFn-mono}
 use types.Kit.{Item, ‵, raw, ◌⊛◌, mean, ⋆, pop, push, ⊢++, ++⊢, prop, Seq, Go, ◌$◌, ◌∵◌, !, qed, move, use0, use1, split, join, suffices, frame, done}
-use denote.RattleType.{owns, mirs}
+use denote.RattleType.{RattleType, owns, mirs}
 use denote.Laws.{Typed, Lawfuls, all_Typed, Is, Lawful}
 use denote.Exit.{yes}
-use denote.Slice.{MutSlice, ShrSlice, finally, shr_slice_vals, mut_slice_Lawful, shr_slice_Lawful, shr_slice_copy}
+use denote.Slice.{MutSlice, ShrSlice, finally, shr_slice_vals, mut_slice_vals, mut_slice_Lawful, shr_slice_Lawful, shr_slice_copy}
 use denote.Signature.{plain, types_at}
 use denote.Triple.Spec.{triple_of, Meets}
 use denote.Triple.Statement.{Contract, Triple}
@@ -32,6 +37,10 @@ use denote.Triple.Walked.{has_of, walk_of, ends_at, walked, Goes, Goes-none, Goe
 use Rattle.by_hand.proofs.Params.{Data, silent, held_silent, Kind, slot, slots, kepts, stay, stays, spells, tells_all, Denoted, vals, passed, Related, Ends, facts, related_facts, lens, fit, thin, dat, shr, own, hld}
 
 -- WHAT IS IN THE CONTEXT
+-- a `&mut [T]` that is given up, at its last list: its ghost name's last value, and its borrow, closed
+abbrev pub closed : (R : RattleType) → Lft → MutBor (List R.Denot) → List R.Denot → Fml
+closed R κ x ys = fsep (finally R x.ghost_name ys) (fbor κ (Body (Arr (Holey (mem R)) (length x.now)) x.ref_ptr.0 x.ref_ptr.1 x.ghost_name))
+
 module _ {M : Type 1} (𝓤 : Ura M) where
   abbrev pub tokens : (n : ℕ) → Lfts n → Shares n → List (Item 𝓤)
   tokens zero κs qs = []
@@ -41,22 +50,22 @@ module _ {M : Type 1} (𝓤 : Ura M) where
     abbrev pub refs : (ks : List (Kind n)) → Denoted κs ks → List (Item 𝓤)
     refs [] a = []
     refs (dat D ∷ ks) a = refs ks a.1
-    refs (shr j ok R ∷ ks) a = ‵ ((ShrSlice (named j) (lft_at n j ok κs) R).own_val a.0 (shr_slice_vals a.0)) ∷ refs ks a.1
-    refs (own j ok R ∷ ks) a = ‵ ((MutSlice (named j) (lft_at n j ok κs) R).own_val a.0 (shr_slice_vals a.0)) ∷ refs ks a.1
-    refs (hld k ∷ ks) a = ‵ ((k.row κs).own a.0 (k.val κs a.0 ∷ [])) ∷ refs ks a.1
+    refs (shr j ok R L ∷ ks) a = ‵ ((ShrSlice (named j) (lft_at n j ok κs) R).own_val a.0 (shr_slice_vals a.0)) ∷ refs ks a.1
+    refs (own j ok R ∷ ks) a = ‵ ((MutSlice (named j) (lft_at n j ok κs) R).own_val a.0 (mut_slice_vals a.0)) ∷ refs ks a.1
+    refs (hld k ∷ ks) a = ‵ ((k.row κs).own_val a.0 (k.val κs a.0 ∷ [])) ∷ refs ks a.1
 
     abbrev pub keeps : (ks : List (Kind n)) → Denoted κs ks → List (Item 𝓤)
     keeps [] a = []
     keeps (dat D ∷ ks) a = keeps ks a.1
-    keeps (shr j ok R ∷ ks) a = ‵ ((ShrSlice (named j) (lft_at n j ok κs) R).own_val a.0 (shr_slice_vals a.0)) ∷ keeps ks a.1
+    keeps (shr j ok R L ∷ ks) a = ‵ ((ShrSlice (named j) (lft_at n j ok κs) R).own_val a.0 (shr_slice_vals a.0)) ∷ keeps ks a.1
     keeps (own j ok R ∷ ks) a = keeps ks a.1
     keeps (hld k ∷ ks) a = keeps ks a.1
 
     abbrev pub lefts : (ks : List (Kind n)) (a : Denoted κs ks) → Ends κs ks a → List (Item 𝓤)
     lefts [] a ws = []
     lefts (dat D ∷ ks) a ws = lefts ks a.1 ws.1
-    lefts (shr j ok R ∷ ks) a ws = ‵ ((ShrSlice (named j) (lft_at n j ok κs) R).own_val a.0 (shr_slice_vals a.0)) ∷ lefts ks a.1 ws.1
-    lefts (own j ok R ∷ ks) a ws = ‵ (finally R a.0.ghost_name ws.0) ∷ lefts ks a.1 ws.1
+    lefts (shr j ok R L ∷ ks) a ws = ‵ ((ShrSlice (named j) (lft_at n j ok κs) R).own_val a.0 (shr_slice_vals a.0)) ∷ lefts ks a.1 ws.1
+    lefts (own j ok R ∷ ks) a ws = ‵ (closed R (lft_at n j ok κs) a.0 ws.0) ∷ lefts ks a.1 ws.1
     lefts (hld k ∷ ks) a ws = lefts ks a.1 ws.1
 
 module _ {M : Type 1} {𝓤 : Ura M} (𝓛 : Logic 𝓤) where
@@ -90,40 +99,40 @@ module _ {M : Type 1} {𝓤 : Ura M} (𝓛 : Logic 𝓤) where
     owns_out : (ks : List (Kind n)) (a : Denoted κs ks) → ent 𝓤 (sem 𝓛 (owns (types_at (slots ks) κs) a (vals κs ks a))) (St (refs 𝓤 κs ks a))
     owns_out [] a = id⊢ 𝓤 (emp 𝓤)
     owns_out (dat D ∷ ks) a = via 𝓤 _ (snd∗ 𝓤 (sem 𝓛 (D.row.own_val a.0 (D.val a.0 ∷ []))) (sem 𝓛 (owns (types_at (slots ks) κs) a.1 (vals κs ks a.1)))) (owns_out ks a.1)
-    owns_out (shr j ok R ∷ ks) a = cons_in (‵ ((ShrSlice (named j) (lft_at n j ok κs) R).own_val a.0 (shr_slice_vals a.0))) (refs 𝓤 κs ks a.1) (owns_out ks a.1)
-    owns_out (own j ok R ∷ ks) a = cons_in (‵ ((MutSlice (named j) (lft_at n j ok κs) R).own_val a.0 (shr_slice_vals a.0))) (refs 𝓤 κs ks a.1) (owns_out ks a.1)
-    owns_out (hld k ∷ ks) a = cons_in (‵ ((k.row κs).own a.0 (k.val κs a.0 ∷ []))) (refs 𝓤 κs ks a.1) (owns_out ks a.1)
+    owns_out (shr j ok R L ∷ ks) a = cons_in (‵ ((ShrSlice (named j) (lft_at n j ok κs) R).own_val a.0 (shr_slice_vals a.0))) (refs 𝓤 κs ks a.1) (owns_out ks a.1)
+    owns_out (own j ok R ∷ ks) a = cons_in (‵ ((MutSlice (named j) (lft_at n j ok κs) R).own_val a.0 (mut_slice_vals a.0))) (refs 𝓤 κs ks a.1) (owns_out ks a.1)
+    owns_out (hld k ∷ ks) a = cons_in (‵ ((k.row κs).own_val a.0 (k.val κs a.0 ∷ []))) (refs 𝓤 κs ks a.1) (owns_out ks a.1)
 
     pub owns_in : (ks : List (Kind n)) (a : Denoted κs ks) → facts κs ks a → ent 𝓤 (St (refs 𝓤 κs ks a)) (sem 𝓛 (owns (types_at (slots ks) κs) a (vals κs ks a)))
     owns_in [] a f = id⊢ 𝓤 (emp 𝓤)
     owns_in (dat D ∷ ks) a f = made _ (D.makes 𝓛 a.0 (D.val a.0 ∷ []) f.0) (owns_in ks a.1 f.1)
-    owns_in (shr j ok R ∷ ks) a f = cons_out (‵ ((ShrSlice (named j) (lft_at n j ok κs) R).own_val a.0 (shr_slice_vals a.0))) (refs 𝓤 κs ks a.1) (owns_in ks a.1 f)
-    owns_in (own j ok R ∷ ks) a f = cons_out (‵ ((MutSlice (named j) (lft_at n j ok κs) R).own_val a.0 (shr_slice_vals a.0))) (refs 𝓤 κs ks a.1) (owns_in ks a.1 f)
-    owns_in (hld k ∷ ks) a f = cons_out (‵ ((k.row κs).own a.0 (k.val κs a.0 ∷ []))) (refs 𝓤 κs ks a.1) (owns_in ks a.1 f)
+    owns_in (shr j ok R L ∷ ks) a f = cons_out (‵ ((ShrSlice (named j) (lft_at n j ok κs) R).own_val a.0 (shr_slice_vals a.0))) (refs 𝓤 κs ks a.1) (owns_in ks a.1 f)
+    owns_in (own j ok R ∷ ks) a f = cons_out (‵ ((MutSlice (named j) (lft_at n j ok κs) R).own_val a.0 (mut_slice_vals a.0))) (refs 𝓤 κs ks a.1) (owns_in ks a.1 f)
+    owns_in (hld k ∷ ks) a f = cons_out (‵ ((k.row κs).own_val a.0 (k.val κs a.0 ∷ []))) (refs 𝓤 κs ks a.1) (owns_in ks a.1 f)
 
     -- what can be copied is kept
     pub refs_keep : (ks : List (Kind n)) (a : Denoted κs ks) → ent 𝓤 (St (refs 𝓤 κs ks a)) (sep 𝓤 (St (refs 𝓤 κs ks a)) (St (keeps 𝓤 κs ks a)))
     refs_keep [] a = emp∗ 𝓤 (emp 𝓤)
     refs_keep (dat D ∷ ks) a = refs_keep ks a.1
-    refs_keep (shr j ok R ∷ ks) a =
+    refs_keep (shr j ok R L ∷ ks) a =
         let X : Fml = (ShrSlice (named j) (lft_at n j ok κs) R).own_val a.0 (shr_slice_vals a.0) in let Y = St (refs 𝓤 κs ks a.1) in let Z = St (keeps 𝓤 κs ks a.1) in
         via 𝓤 _ (cons_out (‵ X) (refs 𝓤 κs ks a.1) (refs_keep ks a.1))
         (via 𝓤 (sep 𝓤 (sep 𝓤 (sem 𝓛 X) Y) (sep 𝓤 (sem 𝓛 X) Z))
-        (qed 𝓛 (‵ X ∷ (raw Y ⊛ raw Z) ∷ []) ∵ use1 𝓛 (‵ X ⊛ ‵ X) ((shr_slice_copy 𝓛 (named j) (lft_at n j ok κs) R).twice a.0 (shr_slice_vals a.0)) $ split ! $ move ! (2 ∷ []) $ split ! $ move ! (2 ∷ 0 ∷ []) $ join ! $ frame ! $ move ! (1 ∷ 0 ∷ []) $ done !)
+        (qed 𝓛 (‵ X ∷ (raw Y ⊛ raw Z) ∷ []) ∵ use1 𝓛 (‵ X ⊛ ‵ X) ((shr_slice_copy 𝓛 (named j) (lft_at n j ok κs) R L).twice a.0 (shr_slice_vals a.0)) $ split ! $ move ! (2 ∷ []) $ split ! $ move ! (2 ∷ 0 ∷ []) $ join ! $ frame ! $ move ! (1 ∷ 0 ∷ []) $ done !)
         (mono∗ 𝓤 (push 𝓛 (‵ X) (refs 𝓤 κs ks a.1)) (push 𝓛 (‵ X) (keeps 𝓤 κs ks a.1))))
-    refs_keep (own j ok R ∷ ks) a = goes_by ((MutSlice (named j) (lft_at n j ok κs) R).own_val a.0 (shr_slice_vals a.0)) (refs 𝓤 κs ks a.1) (keeps 𝓤 κs ks a.1) (refs_keep ks a.1)
-    refs_keep (hld k ∷ ks) a = goes_by ((k.row κs).own a.0 (k.val κs a.0 ∷ [])) (refs 𝓤 κs ks a.1) (keeps 𝓤 κs ks a.1) (refs_keep ks a.1)
+    refs_keep (own j ok R ∷ ks) a = goes_by ((MutSlice (named j) (lft_at n j ok κs) R).own_val a.0 (mut_slice_vals a.0)) (refs 𝓤 κs ks a.1) (keeps 𝓤 κs ks a.1) (refs_keep ks a.1)
+    refs_keep (hld k ∷ ks) a = goes_by ((k.row κs).own_val a.0 (k.val κs a.0 ∷ [])) (refs 𝓤 κs ks a.1) (keeps 𝓤 κs ks a.1) (refs_keep ks a.1)
 
     has_in : (ks : List (Kind n)) (a : Denoted κs ks) (ws : Ends κs ks a) → facts κs ks a → ent 𝓤 (St (lefts 𝓤 κs ks a ws)) (sem 𝓛 (has_of κs (slots ks) (kepts ks) (stays ks) a ws (vals κs ks a)))
     has_in [] a ws f = id⊢ 𝓤 (emp 𝓤)
     has_in (dat D ∷ ks) a ws f = made _ (D.makes 𝓛 a.0 (D.val a.0 ∷ []) f.0) (has_in ks a.1 ws.1 f.1)
-    has_in (shr j ok R ∷ ks) a ws f = cons_out (‵ ((ShrSlice (named j) (lft_at n j ok κs) R).own_val a.0 (shr_slice_vals a.0))) (lefts 𝓤 κs ks a.1 ws.1) (has_in ks a.1 ws.1 f)
-    has_in (own j ok R ∷ ks) a ws f = cons_out (‵ (finally R a.0.ghost_name ws.0)) (lefts 𝓤 κs ks a.1 ws.1) (has_in ks a.1 ws.1 f)
+    has_in (shr j ok R L ∷ ks) a ws f = cons_out (‵ ((ShrSlice (named j) (lft_at n j ok κs) R).own_val a.0 (shr_slice_vals a.0))) (lefts 𝓤 κs ks a.1 ws.1) (has_in ks a.1 ws.1 f)
+    has_in (own j ok R ∷ ks) a ws f = cons_out (‵ (closed R (lft_at n j ok κs) a.0 ws.0)) (lefts 𝓤 κs ks a.1 ws.1) (has_in ks a.1 ws.1 f)
     has_in (hld k ∷ ks) a ws f = made (emp 𝓤) (id⊢ 𝓤 (emp 𝓤)) (has_in ks a.1 ws.1 f)
 
   law : {n : ℕ} (κs : Lfts n) (k : Kind n) → Lawful 𝓛 ((slot k).row κs)
   law κs (dat D) = D.lawful 𝓛
-  law {n} κs (shr j ok R) = shr_slice_Lawful 𝓛 (named j) (lft_at n j ok κs) R
+  law {n} κs (shr j ok R L) = shr_slice_Lawful 𝓛 (named j) (lft_at n j ok κs) R
   law {n} κs (own j ok R) = mut_slice_Lawful 𝓛 (named j) (lft_at n j ok κs) R
   law κs (hld k) = k.lawful 𝓛 κs
 
@@ -137,7 +146,7 @@ module _ {M : Type 1} {𝓤 : Ura M} (𝓛 : Logic 𝓤) where
 
   goes : {n : ℕ} (k : Kind n) → Goes 𝓛 n (slot k) yes (stay k)
   goes {n} (dat D) = Goes-none 𝓛 n (λ _. D.row) yes (λ κs x f. silent D x f)
-  goes {n} (shr j ok R) = Goes-none_slice 𝓛 n (j ∷ []) ok (plain (λ _. R)) yes
+  goes {n} (shr j ok R L) = Goes-none_slice 𝓛 n (j ∷ []) ok (plain (λ _. R)) yes
   goes {n} (own j ok R) = Goes-gave_slice 𝓛 n j ok (plain (λ _. R))
   goes {n} (hld k) = Goes-Silent 𝓛 n (plain k.row) yes (stay_dropped (plain k.row) yes) (held_silent k)
 

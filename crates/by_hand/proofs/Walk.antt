@@ -7,7 +7,7 @@ pub use native.Mathlib.Omega.{arith}
 pub use lib.ListN.{length, get_or, replicate}
 pub use lib.Dec.{ltb, lt→ltb, ltb→lt, lit<}
 pub use seplogic.Ra.Ura.{Ura}
-pub use seplogic.Ra.TreeShare.{full_share}
+pub use base.Fraction.{full_share}
 pub use mir.Syntax.{w16, w32, w64, erased, mut, ty_ref, ty_bool, ty_int, ty_ptr}
 pub use mir.Val.{vbool, vint, vptr}
 pub use base.Logic.{id⊢}
@@ -16,8 +16,9 @@ pub use ghost.Atoms.{Atoms}
 pub use prog.Model.{Model}
 pub use prog.Wp.{Heap, Tables}
 pub use contract.Monad.{fact_i}
-pub use contract.Running.{GhostRules, Running, given_of}
-pub use types.Kit.{Given, Item, put, ‵, ◌$◌, !, by, move, keep, drop, rewrite, fsplit, fjoin}
+pub use contract.Running.{Running}
+pub use types.Logic.{Logic}
+pub use types.Kit.{Item, put, ‵, ◌$◌, !, by, move, keep, drop, rewrite, fsplit, fjoin}
 pub use types.Part.{agg, whole, sub, look_in}
 pub use types.Run.{look, look_raw, store, store_raw, init, forget, stop, hop, fld, from, load, lit, unit_lit, of_opd, and_then, no_more, bin, un, assigns, assigns_last, stays, leaves_loop, land, returns, free0}
 pub use denote.Builtin.{u8, u16, u32}

@@ -6,8 +6,8 @@
 // plain lists and stay there; their 3 is given before anything of a segment. `put_out` puts the first segments of three
 // lists into the front of a lent list.
 //
-// The contracts speak of lists (specs/Lists.antt). Relies on `net` for what a segment is and how many a net has, on
-// `checks` for 1 to 7, and on `by_hand` for the steps by which the two loops over lent structs are proved.
+// The contracts speak of lists (specs/Lists.antt). Relies on `net` for what a segment is and how many a net has, and on
+// `checks` for 1 to 7.
 #![tactic(auto)]
 
 ghost use Rattle.std.specs.Prelude.{◌≡◌, length as size};

@@ -1,9 +1,9 @@
 // A number in the record: "written in groups of seven bits, lowest group first; 128 is added to every byte but the
 // last." Reading one at a place, putting one into a room, and a reader that carries the record and its place from
 // number to number. What each function promises is an equation with a definition of specs/; that a number's bytes read
-// as that number, and no others do, stands in proofs/. Relies on `net` for what a refusal is. The crates `writing` and
-// `reading` stand on it; `fill_number`, `put_part` and `put_at` ask that the number fits, and nothing else here asks
-// anything.
+// as that number, and no others do, stands in proofs/. Relies on `net` for what a refusal is, and on `by_hand` for the
+// walks over a reader. The crates `writing` and `reading` stand on it; `fill_number`, `put_part` and `put_at` ask that
+// the number fits, and nothing else here asks anything.
 #![tactic(auto)]
 
 pub mod reader;
