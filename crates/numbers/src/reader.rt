@@ -8,7 +8,7 @@ ghost use Rattle.numbers.specs.Answers.{numbered_of, behind_of};
 use crate::{Numbered, number_at};
 
 // The lent record, and a place in it.
-#[derive(Drop)]
+#[derive(Clone, Copy)]
 pub struct Reader<'a> {
     pub bytes: &'a [u8],
     pub at: usize,
