@@ -111,7 +111,8 @@ fn reach_from(
     let mut c = hanging::at16(first, u);
     while c > 0 {
         let i = (c - 1) / 2;
-        if marks[i] {
+        let marked = marks[i];
+        if marked {
             let w = across(hanging::at16(a, i), hanging::at16(b, i), u);
             many = reach(w, i, many, reached, queue, tree);
         }
