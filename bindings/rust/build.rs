@@ -1,12 +1,12 @@
 //! Links the proved static library: the archive that DROVER_LIBRARY names, or
-//! else the one that `rt staticlib c_calls` writes in this repository. For another
+//! else the one that `tools/library` writes in this repository. For another
 //! processor than x86-64 there is nothing to link.
 
 use std::env;
 use std::path::{Path, PathBuf};
 use std::process;
 
-/// Where `rt staticlib c_calls` writes the archive, seen from this folder.
+/// Where `tools/library` writes the archive, seen from this folder.
 const BUILT_ARCHIVE: &str = "../../target/staticlib/libc_calls.a";
 
 /// The archive to link.
@@ -25,7 +25,7 @@ fn link_name(archive: &Path) -> Option<&str> {
 
 fn stop(archive: &Path, why: &str) -> ! {
     eprintln!("droverboot: {}: {why}.", archive.display());
-    eprintln!("Build the archive with `rt staticlib c_calls` in the repository's folder,");
+    eprintln!("Build the archive with `tools/library` in the repository's folder,");
     eprintln!("or let DROVER_LIBRARY be the whole path of an archive libNAME.a.");
     process::exit(1)
 }

@@ -26,7 +26,7 @@
 //! Whatever can't be done is refused with a [`Refusal`]: a reason, which has a
 //! number, and a place. No record, run or list makes a function fail otherwise.
 //!
-//! The crate links the archive that `rt staticlib c_calls` writes in its repository,
+//! The crate links the archive that `tools/library` writes in its repository,
 //! or the one whose whole path the environment variable DROVER_LIBRARY gives. It
 //! is for x86-64; for another processor nothing is linked, and the crate can be
 //! checked and run only as far as it calls no function of the library

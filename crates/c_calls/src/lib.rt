@@ -1,7 +1,8 @@
 // The library for C and Rust: functions on numbers and lent lists, each list a pointer and a length. Records are of
 // either form. A refusal is number × 2^32 + place; the place of 3 is 0 for the house ratio, and the post for a post's
 // own. After one nothing that is lent is changed, and no function asks anything of what is lent. Thin over
-// `on_records`, `moves` and `drawn`, whose answers `c_numbers` puts into numbers.
+// `on_records`, `moves` and `drawn`, whose answers `c_numbers` puts into numbers. `c_calls_c` exports each function under
+// its name.
 #![tactic(auto)]
 
 ghost use Rattle.std.specs.Prelude.{◌≡◌};
@@ -21,8 +22,7 @@ use on_records::PlanAnswer;
 use writing::WriteAnswer;
 
 // CHECK, for every input: reads the record, and no more. 0, or the refusal.
-#[unsafe(no_mangle)]
-pub extern "C" fn drover_check(bytes: &[u8]) -> u64
+pub fn drover_check(bytes: &[u8]) -> u64
     ensures checked { result ≡ check_number (check_read (record_read bytes.now)) }
 {
     let answer = on_records::check(bytes);
@@ -34,8 +34,7 @@ pub extern "C" fn drover_check(bytes: &[u8]) -> u64
 
 // PLAN, for every input: reads the record, builds its trees into the three lent lists and puts the twelve numbers of
 // its plan, among them the house ratio in both forms, at the front of the summary. 0, or the refusal.
-#[unsafe(no_mangle)]
-pub extern "C" fn drover_plan(
+pub fn drover_plan(
     bytes: &[u8],
     lightest: &mut [u16],
     shortest: &mut [u16],
@@ -77,8 +76,7 @@ fn write_number(answer: WriteAnswer) -> u64
 
 // REWRITE, for every input: reads the record and writes it to the front of the room. The length written, or 2^63 + the
 // refusal.
-#[unsafe(no_mangle)]
-pub extern "C" fn drover_rewrite(bytes: &[u8], room: &mut [u8]) -> u64
+pub fn drover_rewrite(bytes: &[u8], room: &mut [u8]) -> u64
     ensures rewritten { RewriteLeaves bytes.now room.old result room.new }
 {
     write_number(on_records::rewrite(bytes, room))
@@ -87,8 +85,7 @@ pub extern "C" fn drover_rewrite(bytes: &[u8], room: &mut [u8]) -> u64
 // TO THE SECOND FORM, for every input: reads a record of the first form and writes it to the front of the room with the
 // house ratio for each post but the source. The length written, or 2^63 + the refusal, 30 for a record of the second
 // form.
-#[unsafe(no_mangle)]
-pub extern "C" fn drover_to_second(bytes: &[u8], room: &mut [u8]) -> u64
+pub fn drover_to_second(bytes: &[u8], room: &mut [u8]) -> u64
     ensures moved { MoveLeaves Second bytes.now room.old result room.new }
 {
     write_number(moves::to_second(bytes, room))
@@ -97,8 +94,7 @@ pub extern "C" fn drover_to_second(bytes: &[u8], room: &mut [u8]) -> u64
 // TO THE FIRST FORM, for every input: reads a record of the second form, in which every post but the source has the
 // house p and q, and writes it to the front of the room without them. The length written, or 2^63 + the refusal, 30 for
 // a record of the first form, 20 for a post with another ratio.
-#[unsafe(no_mangle)]
-pub extern "C" fn drover_to_first(bytes: &[u8], room: &mut [u8]) -> u64
+pub fn drover_to_first(bytes: &[u8], room: &mut [u8]) -> u64
     ensures moved { MoveLeaves First bytes.now room.old result room.new }
 {
     write_number(moves::to_first(bytes, room))
@@ -106,8 +102,7 @@ pub extern "C" fn drover_to_first(bytes: &[u8], room: &mut [u8]) -> u64
 
 // MARGIN, for every input: reads the record and puts the margin of a post, in the tree that the number names and by the
 // post's own ratio in the second form, into the first entry of the list. 0, or the refusal.
-#[unsafe(no_mangle)]
-pub extern "C" fn drover_margin(bytes: &[u8], tree: u32, post: u32, out: &mut [i64]) -> u64
+pub fn drover_margin(bytes: &[u8], tree: u32, post: u32, out: &mut [i64]) -> u64
     ensures measured { MarginLeaves bytes.now tree post out.old result out.new }
 {
     let named = tree_named(tree);
@@ -123,8 +118,7 @@ pub extern "C" fn drover_margin(bytes: &[u8], tree: u32, post: u32, out: &mut [i
 
 // A DRAWN RUN, for every input, by the bits of its lengths: 0 for `corner` is a straight run, which has the first
 // alone. Its length in sixteenths, or 2^63 + the refusal.
-#[unsafe(no_mangle)]
-pub extern "C" fn drover_drawn(corner: u32, first: u64, second: u64) -> u64
+pub fn drover_drawn(corner: u32, first: u64, second: u64) -> u64
     ensures drawn { result ≡ drawn_number (drawn_of (the_run_named corner first second)) }
 {
     let run = run_named(corner, first, second);
