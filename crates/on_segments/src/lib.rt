@@ -7,7 +7,7 @@
 
 ghost use Rattle.std.specs.Prelude.{◌≡◌, length, replicate};
 ghost use Rattle.crossings.specs.Lists.{net_on, Places};
-ghost use Rattle.net.specs.Net.{every, most_segments};
+ghost use Rattle.net.specs.Net.{every, most_segments, ratios_of};
 ghost use Rattle.net.specs.Ready.{ratios_by, ratio_count_by};
 ghost use Rattle.net.specs.Building.{margin_of};
 ghost use Rattle.building.specs.Answers.{Leaves};
@@ -219,7 +219,7 @@ fn read_front(
     lengths: &mut [u32],
 ) -> ReadAnswer
     requires { Places a.old b.old lengths.old }
-    ensures { ReadsFront (net_read bytes.now room (ratio_count_by p.entry q.entry) 0)
+    ensures { ReadsFront (net_read bytes.now room (length (ratios_of p.old q.old)) 0)
         p.old q.old result p.new q.new
         a.new b.new lengths.new }
 {

@@ -16,7 +16,7 @@ use Rattle.net.specs.declared.Checked.{Checked}
 use Rattle.net.specs.declared.Checked.TheVariants.{Sound}
 use Rattle.net.proofs.Own.{ratio_fields}
 use Rattle.numbers.specs.Numbers.{Got, got, refused}
-use Rattle.reading.specs.Reading.{ratio, posts}
+use Rattle.reading.specs.Reading.{ratio}
 use Rattle.reading.specs.Answers.{post_read_of}
 use Rattle.reading.specs.Turns.{does_go_on, post_ends, StoresPost, row_up_to, OwnStored}
 use Rattle.reading.specs.declared.RowRead.{RowRead}

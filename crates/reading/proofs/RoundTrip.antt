@@ -1,7 +1,7 @@
 -- The round trips: reading what was written gives the net back; writing what was read gives the bytes back. So two good records of one net are equal,
 -- and two nets of one record are. Relies on numbers' Runs, on writing's Lines, and on Steps, OneByOne, Passes and Parsed.
 use Prim.Native.Nat.{ℕ, zero, suc, ◌+◌, ◌<◌, ◌≤◌, min}
-use mathlib.Core.Path.{◌≡◌, refl, sym, ap, ◌∙◌}
+use mathlib.Core.Path.{◌≡◌, refl, sym, ap, subst, ◌∙◌}
 use mathlib.Core.Bool.{Bool, true, false, cond}
 use mathlib.Core.List.{List, [], ◌∷◌, ◌++◌, append_assoc, append-nil}
 use native.Mathlib.Nat.{zero-add}
@@ -264,7 +264,8 @@ module _ {bytes : List ℕ} (all : Bytes bytes) where
       let m : length (pre ++ (f.x ∷ [])) ≡ length pre + 1 = length-append pre (f.x ∷ []) in
       let o : pre ++ (f.x ∷ []) ++ f.ts ≡ pre ++ (f.x ∷ f.ts) = append_assoc pre (f.x ∷ []) f.ts in
       let rest = posts_run source k (pre ++ (f.x ∷ [])) f.ts {at = f.j} {next = next} (rw m f.rest) in
-      rw f.is (stand_append (post_run source (length pre) (pre ++ (f.x ∷ f.ts)) (at_seam pre f.ts f.x) f.one_is) (rw (o, m) at rest))
+      let whole = stand_append (post_run source (length pre) (pre ++ (f.x ∷ f.ts)) (at_seam pre f.ts f.x) f.one_is) (rw (o, m) at rest) in
+      subst (λ (ts : List Ratio). Stand bytes at (posts_written source (pre ++ ts) (length pre) (suc k)) next) (sym f.is) whole
 
   pub segment_run : (posts i : ℕ) {s : Segment} {at next : ℕ} → segment bytes posts i at ≡ got s next → Stand bytes at (segment_written s) next
   segment_run posts i {s} {at} {next} e =

@@ -12,7 +12,7 @@ use Rattle.net.specs.declared.Segment.{Segment}
 use Rattle.net.specs.declared.Checked.{Checked}
 use Rattle.net.specs.declared.Checked.TheVariants.{Sound}
 use Rattle.numbers.specs.Numbers.{Got, got, refused}
-use Rattle.reading.specs.Reading.{segment, segments}
+use Rattle.reading.specs.Reading.{segment}
 use Rattle.reading.specs.Answers.{segment_read_of}
 use Rattle.reading.specs.Turns.{does_go_on, segment_ends, Stores, row_up_to, SegmentsStored}
 use Rattle.reading.specs.declared.RowRead.{RowRead}

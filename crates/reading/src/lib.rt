@@ -5,8 +5,8 @@
 // it stays, and the first refusal is the answer. What is read stands in plain lists side by side, two for the posts'
 // own ratios and three for the segments. `read_in`, where the reader is made, reads into lists to work in; `read` lays
 // a good record's ratios and segments over lent lists, and nothing before the whole record is found good;
-// `check_record` only says whether it is. Relies on `checks`, on `numbers` and, for the walks over a reader, on
-// `by_hand`; for the laws about both ways, in proofs/, on `writing`.
+// `check_record` only says whether it is. Relies on `checks` and `numbers`; for the laws about both ways, in proofs/,
+// on `writing`.
 #![tactic(auto)]
 
 ghost use Rattle.std.specs.Prelude.{◌≡◌, ◌<◌, ◌≤◌, ◌++◌, length, drop, eqb};
