@@ -1,6 +1,6 @@
 -- Moves by the rules of specs/Rules: every record has an answer by them (`move_answers`), it has no other, and `Moves` computes it (`move_only`, `move_once`). Relies on reading's Ruled, on net's
 -- tables and on Tests.
-use mathlib.Core.Path.{◌≡◌, sym, ap, ◌∙◌}
+use mathlib.Core.Path.{◌≡◌, sym, subst, ap, ◌∙◌}
 use mathlib.Core.Bool.{false}
 use mathlib.Core.List.{List, [], ◌∷◌, ◌++◌}
 use mathlib.Core.Option.{Option, none, some}
@@ -11,7 +11,7 @@ use Rattle.net.specs.Net.{house, Net, ratio_at, most_posts, most_segments}
 use Rattle.net.specs.Refusals.{Line, line, refusal}
 use Rattle.net.specs.declared.Form.{Form}
 use Rattle.net.specs.declared.Refusal.{Refusal}
-use Rattle.net.proofs.Tables.{FirstOf, end, here, below, first_of, first_only, InEither, in_first, in_second, in_either, some_append, none_append, LowestOf, nowhere, lowest_at, lowest_of, none_each, some_each, pass, fail}
+use Rattle.net.proofs.Tables.{FirstOf, end, here, below, first_of, first_only, only_line, InEither, in_first, in_second, in_either, some_append, none_append, LowestOf, nowhere, lowest_at, lowest_of, none_each, some_each, pass, fail}
 use Rattle.numbers.specs.Numbers.{Bytes, Got, got, refused as unread}
 use Rattle.reading.specs.Rules.{ReadRule}
 use Rattle.reading.proofs.Ruled.{read_only, read_answers}
@@ -86,9 +86,11 @@ module _ (wanted : Form) (n : Net) (room : ℕ) where
   -- AND EVERY NET HAS ONE
   module _ (ne : n.head.form ≡ wanted → ⊥) where
     by_lowest : {r : Refusal} → LowestOf (other_line n) (length n.own) (some r) → NetRule wanted n room (some r)
-    by_lowest (lowest_at i l g (here e)) =
-        let z = (other_told n.head n.own i).passes e in
-        twenty ne (record { is_post = l; not_source = z.0; another = z.1; lower_house = λ v k. as_house n v (g v k) })
+    by_lowest (lowest_at i l g e) =
+        let o = only_line e in
+        let z = (other_told n.head n.own i).passes o.0 in
+        subst (λ (x : Refusal). NetRule wanted n room (some x)) o.1
+        (twenty ne (record { is_post = l; not_source = z.0; another = z.1; lower_house = λ v k. as_house n v (g v k) }))
 
     at_last : AllHouse n → {r : Option Refusal} → FirstOf last_at r → NetRule wanted n room r
     unfolding short_lines
@@ -103,6 +105,7 @@ module _ (wanted : Form) (n : Net) (room : ℕ) where
   by_table : {r : Option Refusal} → InEither (form_lines wanted n) (other_lines n ++ last_at) r → NetRule wanted n room r
   unfolding form_lines
   by_table (in_first (here e)) = thirty ((same_form_law n.head.form wanted).passes e)
+  by_table (in_first {r = r} (below _ f)) = elim f [ ]
   by_table (in_second (below e end) g) = behind_thirty ((same_form_law n.head.form wanted).fails e) (in_either (other_lines n) last_at g)
 
   pub net_answers : NetRule wanted n room (move_refusal wanted n room)
