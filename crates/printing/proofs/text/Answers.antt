@@ -2,7 +2,6 @@
 use mathlib.Core.Path.{refl}
 use native.Mathlib.Omega.{arith}
 use Rattle.printing.proofs.Printing.{planned_lines, refused_lines, put_same}
-use borrow.Author.Rules.{rules}
 use Rattle.printing.proofs.text.Goals as goal
 
 pub put_built-requires : goal.put_built-requires
