@@ -161,7 +161,7 @@ pub record Demand1 : Type 2 where
   pub margin : Says entry.margin (λ κs (h, (p, (q, (segments, (_, (post, _)))))) a _.
       MarginRefuses (net_on h p.now q.now segments.now) (length segments.now) (ratio_count_by p q) post a)
   pub read : Says entry.read (λ κs (bytes, (p, (q, (l, _)))) a (_, (p', (q', (l', _)))).
-      ReadRefuses bytes.now (length l.now) (ratio_count_by p q) a (ratios_of p' q') l'
+      ReadRefuses bytes.now (length l.now) (length (ratios_of p.now q.now)) a (ratios_of p' q') l'
       ((p' ≡ p.now) × (q' ≡ q.now) × (l' ≡ l.now)))
   pub write : Says entry.write (λ κs (h, (p, (q, (segments, (room, _))))) a (_, (_, (_, (_, (x, _))))).
       WriteRefuses (net_on h p.now q.now segments.now) (length segments.now) (ratio_count_by p q) room.now a x)
@@ -175,7 +175,7 @@ pub record Demand1 : Type 2 where
       MarginRefuses (net_by h p q a b lengths) (count_by a b lengths) (ratio_count_by p q) post r)
   pub read_lists : Says entry.read_lists
       (λ κs (bytes, (p, (q, (a, (b, (lengths, _)))))) r (_, (p', (q', (a', (b', (lengths', _)))))).
-      ReadRefuses bytes.now (count_by a b lengths) (ratio_count_by p q) r (ratios_of p' q') (segments_of a' b' lengths')
+      ReadRefuses bytes.now (length (segments_of a.now b.now lengths.now)) (length (ratios_of p.now q.now)) r (ratios_of p' q') (segments_of a' b' lengths')
       ((p' ≡ p.now) × (q' ≡ q.now) × (a' ≡ a.now) × (b' ≡ b.now) × (lengths' ≡ lengths.now)))
   pub write_lists : Says entry.write_lists
       (λ κs (h, (p, (q, (a, (b, (lengths, (room, _))))))) r (_, (_, (_, (_, (_, (_, (x, _))))))).

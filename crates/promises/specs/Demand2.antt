@@ -30,7 +30,6 @@ use Rattle.net.specs.Ready.{net_by}
 use Rattle.crossings.specs.Lists.{net_on}
 use Rattle.building.specs.Answers.{says_of}
 use Rattle.margins.specs.Answers.{margin_says_of}
-use Rattle.margins.specs.declared.MarginAnswer.{MarginAnswer}
 use Rattle.numbers.specs.Numbers.{Bytes, got}
 use Rattle.reading.specs.Longest.{LongestRecord}
 use Rattle.writing.specs.Writing.{net_written}
