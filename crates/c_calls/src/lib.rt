@@ -1,8 +1,8 @@
 // The library for C and Rust: functions on numbers and lent lists, each list a pointer and a length. Records are of
 // either form. A refusal is number × 2^32 + place; the place of 3 is 0 for the house ratio, and the post for a post's
 // own. After one nothing that is lent is changed, and no function asks anything of what is lent. Thin over
-// `on_records`, `moves` and `drawn`, whose answers `c_numbers` puts into numbers. `c_calls_c` exports each function under
-// its name.
+// `on_records`, `moves` and `drawn`, whose answers `c_numbers` puts into numbers. `c_calls_c` exports each function
+// under its name.
 #![tactic(auto)]
 
 ghost use Rattle.std.specs.Prelude.{◌≡◌};

@@ -1,5 +1,5 @@
-// The static library for C and Rust: each function of `c_calls` under its name, with its clauses. A crate is a library or
-// a static library, so the exports stand here and what they call there.
+// The static library for C and Rust: each function of `c_calls` under its name, with its clauses. A crate is a library
+// or a static library, so the exports stand here and what they call there.
 #![tactic(auto)]
 
 ghost use Rattle.std.specs.Prelude.{◌≡◌};

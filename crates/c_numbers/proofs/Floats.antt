@@ -1,4 +1,4 @@
--- The f64 of a pattern of bits: under the sign a not-a-number's are above an infinity's, and 0/0 is the not_a_number. Rests on the library's floats.
+-- The f64 of a pattern of bits: under the sign a not-a-number's are above an infinity's, and 0/0 is the not-a-number. Rests on the library's floats.
 use mathlib.Core.Path.{◌≡◌, refl, sym, ap, ◌∙◌, subst}
 use mathlib.Core.Bool.{Bool, true, not}
 use Prim.Native.Nat.{ℕ, ◌-◌, ◌^◌, ◌≤◌, ◌<◌}

@@ -21,7 +21,7 @@ const MARK: u64 = 0x8000_0000_0000_0000;
 // The bits of an f64 under its sign.
 const SIZE: u64 = 0x7fff_ffff_ffff_ffff;
 
-// The bits of an infinity. Those of a not_a_number, under the sign, are above them.
+// The bits of an infinity. Those of a not-a-number, under the sign, are above them.
 const INFINITY: u64 = 0x7ff0_0000_0000_0000;
 
 // A refusal in one number.
@@ -100,7 +100,7 @@ pub fn tree_named(tree: u32) -> Tree
     Tree::Between
 }
 
-// The f64 of some bits. Every pattern of a not_a_number stands for the one that 0/0 gives.
+// The f64 of some bits. Every pattern of a not-a-number stands for the one that 0/0 gives.
 fn float_of(bits: u64) -> f64
     ensures { result ≡ of_bits binary64 bits }
 {

@@ -31,7 +31,7 @@ pub record WithinTwo (m : ℕ) (e : ℤ) (n : ℕ) (f : ℤ) (k : ℕ) : Type 0 
 
 -- What a drawn length says, as the leg whose place is p.
 pub data Means (p : ℕ) : Float → Says → Type 0 where
-  -- 13: "drawn length not finite". "A not_a_number and both infinities"
+  -- 13: "drawn length not finite". "A not-a-number and both infinities"
   not_a_number : Means p nan (refused 13 p)
   infinite : {s : Bool} → Means p (inf s) (refused 13 p)
   -- 14: "drawn length below zero"

@@ -54,7 +54,7 @@ pub record DrawnWorked : Type 0 where
   pub least : drawn_says (Straight (bits 1)) ≡ sixteenths 1
   pub small : drawn_says (Straight (mm 1 (10 ^ 300))) ≡ sixteenths 1
   pub largest : drawn_says (Straight (bits 9218868437227405311)) ≡ refused 17 0
-  -- "A not_a_number and both infinities: 13. −1: 14. Minus zero: 15." Below zero nothing is rounded
+  -- "A not-a-number and both infinities: 13. −1: 14. Minus zero: 15." Below zero nothing is rounded
   pub drawn_nan : drawn_says (Straight nan) ≡ refused 13 0
   pub drawn_infinite : drawn_says (Straight (inf false)) ≡ refused 13 0
   pub drawn_minus_infinite : drawn_says (Straight (inf true)) ≡ refused 13 0

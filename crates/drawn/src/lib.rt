@@ -69,7 +69,7 @@ const DIGITS: u64 = 0xf_ffff_ffff_ffff;
 // The significand's leading one.
 const LEADING_ONE: u64 = 0x10_0000_0000_0000;
 
-// The field of the infinities and of a not_a_number.
+// The field of the infinities and of a not-a-number.
 const TOP_FIELD: u64 = 2047;
 
 // The field at which the significand itself counts sixteenths: 16 * 2 ^ (1071 - 1075) is 1.
@@ -117,7 +117,7 @@ fn leg_of_bits(bits: u64) -> Leg
     Leg::Sixteenths((whole + 1) as u32)
 }
 
-// One leg. The test is for what is taken: a not_a_number fails it, as it fails every comparison,
+// One leg. The test is for what is taken: a not-a-number fails it, as it fails every comparison,
 // even with itself.
 fn leg_of(x: f64) -> Leg
     ensures { result ≡ the_leg_of x }

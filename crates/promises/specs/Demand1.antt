@@ -175,7 +175,8 @@ pub record Demand1 : Type 2 where
       MarginRefuses (net_by h p q a b lengths) (count_by a b lengths) (ratio_count_by p q) post r)
   pub read_lists : Says entry.read_lists
       (λ κs (bytes, (p, (q, (a, (b, (lengths, _)))))) r (_, (p', (q', (a', (b', (lengths', _)))))).
-      ReadRefuses bytes.now (length (segments_of a.now b.now lengths.now)) (length (ratios_of p.now q.now)) r (ratios_of p' q') (segments_of a' b' lengths')
+      ReadRefuses bytes.now (length (segments_of a.now b.now lengths.now)) (length (ratios_of p.now q.now)) r
+      (ratios_of p' q') (segments_of a' b' lengths')
       ((p' ≡ p.now) × (q' ≡ q.now) × (a' ≡ a.now) × (b' ≡ b.now) × (lengths' ≡ lengths.now)))
   pub write_lists : Says entry.write_lists
       (λ κs (h, (p, (q, (a, (b, (lengths, (room, _))))))) r (_, (_, (_, (_, (_, (_, (x, _))))))).
