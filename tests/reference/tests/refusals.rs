@@ -157,7 +157,7 @@ fn in_code(code: &str) -> BTreeSet<u32> {
 
 /// The greatest number of a refusal, as the crates' definitions have it.
 fn greatest_in_specs(specs: &str) -> Option<u32> {
-    let (_, value) = specs.split_once("\nmostNumber = ")?;
+    let (_, value) = specs.split_once("\nmost_number = ")?;
     leading_number(value)
 }
 
@@ -297,8 +297,8 @@ fn whatever_differs_from_the_table_shows() {
     }
     wrong(
         |texts| &mut texts.specs,
-        "mostNumber = 32",
-        "mostNumber = 30",
+        "most_number = 32",
+        "most_number = 30",
     );
     let with_code = |code: String| Texts {
         code,
