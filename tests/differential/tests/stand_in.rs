@@ -81,17 +81,20 @@ fn commands_over(name: &str, programs: &[(&str, &str)], commands: &[&str]) -> Pa
     let root = Path::new(env!("CARGO_MANIFEST_DIR")).join("../..");
     let folder = Path::new(env!("CARGO_TARGET_TMPDIR")).join(name);
     let _ = fs::remove_dir_all(&folder);
-    // Copies, since `rt ci` refuses links anywhere in the repository.
-    let copy = |from: &Path, to: &str| {
+    // Hard links, or copies where there can be none: `rt ci` refuses symbolic
+    // links anywhere in the repository.
+    let place = |from: &Path, to: &str| {
         let to = folder.join(to);
         fs::create_dir_all(to.parent().expect("a folder")).expect("made");
-        fs::copy(from, to).expect("copied");
+        fs::hard_link(from, &to)
+            .or_else(|_| fs::copy(from, &to).map(|_| ()))
+            .expect("placed");
     };
     for (program, to) in programs {
-        copy(Path::new(program), to);
+        place(Path::new(program), to);
     }
     for command in commands {
-        copy(&root.join(command), command);
+        place(&root.join(command), command);
     }
     folder
 }
