@@ -2,8 +2,8 @@
 // last." Reading one at a place, putting one into a room, and a reader that carries the record and its place from
 // number to number. What each function promises is an equation with a definition of specs/; that a number's bytes read
 // as that number, and no others do, stands in proofs/. Relies on `net` for what a refusal is, and on `by_hand` for the
-// laws of walks over a reader. The crates `writing` and `reading` stand on it; `fill_number`, `put_part` and `put_at` ask that
-// the number fits, and nothing else here asks anything.
+// laws of walks over a reader. The crates `writing` and `reading` stand on it; `fill_number`, `put_part` and `put_at`
+// ask that the number fits, and nothing else here asks anything.
 #![tactic(auto)]
 
 pub mod reader;
