@@ -1,5 +1,5 @@
--- The links of the children (specs/Children) as they are made: at the start no link is needed (`indexed_start`), and one look at a segment links
--- the child that hangs by it, whichever end that is (`indexed_turn`). Nothing is asked of the tree walked. Relies on net's laws of `child`.
+-- The links of the children (specs/Children) as they are made: one look at a segment links the child that hangs by it, whichever end that is
+-- (`indexed_turn`). Nothing is asked of the tree walked. Relies on net's laws of `child`.
 use mathlib.Core.Path.{◌≡◌, refl, sym, ap, ◌∙◌}
 use mathlib.Core.Bool.{Bool, true, false, not, cond}
 use mathlib.Core.Logic.{◌⊎◌, inl, inr}
@@ -8,7 +8,7 @@ use Prim.Native.Nat.{ℕ, suc, ◌-◌, ◌≤◌, ◌<◌}
 use native.Mathlib.Omega.{arith}
 use native.Mathlib.Decide.{dec_lt, ℕ_discrete}
 use lib.Dec.{eqb}
-use lib.ListN.{length, get_or, set, replicate, length-set, get_or-replicate}
+use lib.ListN.{length, get_or, set, length-set}
 use lib.Seq.{get_or-set_same, get_or-set_other}
 use borrow.Author.Tests.{eqb-true, eqb-false, eq-eqb, ne_eqb}
 use Rattle.net.specs.Words.{only, no_segment}
@@ -141,13 +141,6 @@ module _ (g : Given) (n : ℕ) where
       still v k d ck (inl e) = omega arith
       still v k d ck (inr (e, c)) = let nk : k ≡ i → ⊥ = λ z. clash (rw z at ck) c in omega arith
 
-  linked_start : (f a : List ℕ) → f ≡ replicate n no_segment → Linked g n (λ _. length g.segments) f a
-  linked_start f a e =
-      record {
-        firsts = λ v hv. nothing (rw e (get_or-replicate n v no_segment no_segment hv)) (λ i p q. absurd (omega arith));
-        afters = λ v k hv d hk ck. absurd (omega arith);
-      }
-
 adopted_long : (i x y : ℕ) (walked f a : List ℕ) → (length (adopted i x y walked (f, a)).0 ≡ length f) × (length (adopted i x y walked (f, a)).1 ≡ length a)
 unfolding adopted
 adopted_long i x y walked f a = go (eqb (entry walked y) i)
@@ -209,12 +202,6 @@ module _ (g : Given) (n i x y : ℕ) (hi : i < length g.segments) (ex : (nth_seg
           ])
 
 -- THE INDEX
-pub indexed_start : (a b walked first after : List ℕ) (n : ℕ) → first ≡ replicate n no_segment → Indexed a b walked n (length a) first after
-indexed_start a b walked first after n e = record { links = λ g lengths l ew. rw (← l.count) (linked_start g n first after e) }
-
-pub indexed_end : {a b walked first after : List ℕ} {n m j : ℕ} → n ≡ m → j ≤ 0 → Indexed a b walked n j first after → Indexed a b walked m 0 first after
-indexed_end {j = j} e h ix = let z : j ≡ 0 = omega arith in rw (← e, ← z) ix
-
 pub indexed_turn : {a b walked first after : List ℕ} {n j : ℕ} → Indexed a b walked n j first after → EndsIn n a b → 0 < j → j ≤ length a → n ≤ length first → n ≤ length after
     → (x y : ℕ) → x ≡ get_or a (j - 1) 0 → y ≡ get_or b (j - 1) 0 → (first' after' : List ℕ) → (first', after') ≡ adopted_both (j - 1) x y walked (first, after)
     → Indexed a b walked n (j - 1) first' after'

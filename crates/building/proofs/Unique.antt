@@ -7,8 +7,8 @@ use Rattle.net.specs.Net.{Net, every}
 use Rattle.net.specs.Building.{BuildAnswer, build_of}
 use Rattle.net.specs.Building as B
 use Rattle.building.specs.Answers.{answer_of, says_of, Leaves, lent_of}
-use Rattle.building.specs.declared.Answer.{Answer}
-use Rattle.building.specs.declared.Answer.TheVariants.{Built, Refused}
+use Rattle.std.specs.Prelude.{Ok, Err}
+use Rattle.building.specs.Answers.{Answer}
 
 -- the answer and the three lists
 pub record SameOutcome (r r₂ : Answer) (l l₂ s s₂ w w₂ : List ℕ) : Type 0 where
@@ -32,8 +32,8 @@ says_answer (B.BuildAnswer.built l s b k) = refl
 says_answer (B.BuildAnswer.refused r) = refl
 
 pub answer_says : (x : Answer) → answer_of (says_of x) ≡ x
-answer_says (Built l s b k) = refl
-answer_says (Refused r) = refl
+answer_says (Ok x) = refl
+answer_says (Err r) = refl
 
 -- so what building says is net's own answer
 pub build_says : (n : Net) (m k : ℕ) (l s w : List ℕ) {r : Answer} → r ≡ answer_of (build_of every n m k (lent_of l s w)) → says_of r ≡ build_of every n m k (lent_of l s w)

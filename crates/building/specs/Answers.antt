@@ -1,14 +1,14 @@
--- What an answer of building says in document 01's terms, for each case of the code's enum.
-use Rattle.std.specs.Prelude.{◌≡◌, List, ℕ, length}
+-- What an answer of building says in document 01's terms, for each case of the code's answer: a result or a refusal.
+use Rattle.std.specs.Prelude.{◌≡◌, List, ℕ, length, Result, Ok, Err}
 use Rattle.net.specs.Net.{Net, every}
 use Rattle.net.specs.Refusals.{Lent}
 use Rattle.net.specs.Trees.{whole, radius}
 use Rattle.net.specs.Building.{BuildAnswer, built, refused, build_of, after_build}
+use Rattle.net.specs.declared.Built.{Built}
 use Rattle.net.specs.declared.Measured.{Measured}
+use Rattle.net.specs.declared.Refusal.{Refusal}
 use Rattle.net.specs.declared.Tree.TheVariants.{Lightest, Shortest, Between}
 use Rattle.hanging.specs.Paths.{Rooted}
-use Rattle.building.specs.declared.Answer.{Answer}
-use Rattle.building.specs.declared.Answer.TheVariants.{Built, Refused}
 
 -- length and radius of a tree list of a net
 abbrev pub measured_in : Net → List ℕ → Measured
@@ -20,15 +20,26 @@ pub record TreeOf (n : Net) (t : List ℕ) : Type 0 where
   pub one_each : length t ≡ n.head.posts
   pub rooted : Rooted n.segments n.head.posts t
 
--- what building answers in the code's enum
+-- what the code answers
+abbrev pub Answer : Type 0
+Answer = Result Built Refusal
+
+-- length and radius of each tree and the count of laid paths
+abbrev pub measures : (l s b : Measured) → ℕ → Built
+measures l s b k = record { lightest = l; shortest = s; between = b; laid = k }
+
+abbrev pub done : (l s b : Measured) → ℕ → Answer
+done l s b k = Ok (measures l s b k)
+
+-- what building answers as the code does
 abbrev pub answer_of : BuildAnswer → Answer
-answer_of (built l s b k) = Built l s b k
-answer_of (refused r) = Refused r
+answer_of (built l s b k) = done l s b k
+answer_of (refused r) = Err r
 
 -- and what an answer of building says in document 01's terms
 abbrev pub says_of : Answer → BuildAnswer
-says_of (Built l s b k) = built l s b k
-says_of (Refused r) = refused r
+says_of (Ok x) = built x.lightest x.shortest x.between x.laid
+says_of (Err r) = refused r
 
 -- how many entries three lists have
 abbrev pub lent_of : List ℕ → List ℕ → List ℕ → Lent

@@ -13,6 +13,7 @@ use lib.Dec.{eqb, leb}
 use lib.ListN.{length}
 use borrow.Author.Tests.{eqb-true, leb-true}
 use Rattle.net.proofs.Words.{and_left, and_right, or_cases}
+use Rattle.std.specs.Prelude.{Result, Ok, Err}
 use Rattle.net.specs.Net.{Net, every, most_posts, most_segments}
 use Rattle.net.specs.Refusals.{Lent}
 use Rattle.net.specs.Building.{build_refusal, build_answer, build_of, margin_refusal, margin_answer, margin_of}
@@ -20,9 +21,7 @@ use Rattle.net.specs.declared.Form.{Form}
 use Rattle.net.specs.declared.Head.{Head}
 use Rattle.net.specs.declared.Refusal.{Refusal}
 use Rattle.net.specs.declared.Tree.{Tree}
-use Rattle.net.specs.declared.Checked.TheVariants.{Refused as Unsound}
 use Rattle.margins.specs.Answers.{margin_answer_of}
-use Rattle.margins.specs.declared.MarginAnswer.TheVariants.{Refused as Unmeasured}
 use Rattle.numbers.specs.Numbers.{Bytes, Got, got, refused}
 use Rattle.net.specs.Rules.{BuildRule, MarginRule}
 use Rattle.net.proofs.Faults.{head_range, ratio_range, segment_range, faulty_range}
@@ -33,18 +32,14 @@ use Rattle.reading.specs.Rules.{ReadRule, head_ten_eleven, one_to_four, eight, p
 use Rattle.writing.specs.Rules.{WriteRule}
 use Rattle.writing.specs.Writing.{net_written, write_refusal}
 use Rattle.writing.specs.Answers.{write_answer_by, write_answer_of}
-use Rattle.writing.specs.declared.WriteAnswer.{WriteAnswer}
-use Rattle.writing.specs.declared.WriteAnswer.TheVariants.{Written, Refused as Unwritten}
 use Rattle.reading.proofs.Ruled.{read_answers}
 use Rattle.writing.proofs.RuledWriting.{write_answers}
 use Rattle.reading.specs.Answers.{check_read}
 use Rattle.on_records.specs.Asked.{record_read, planned_with, plan_of, rewrite_of, margin_said, margin_read}
-use Rattle.on_records.specs.declared.PlanAnswer.TheVariants.{Refused as Unplanned}
 use Rattle.drawn.specs.Drawn.{drawn_of}
 use Rattle.drawn.specs.Says.{says_of}
 use Rattle.drawn.specs.Rules.{RefusedWith}
 use Rattle.drawn.specs.declared.Run.{Run}
-use Rattle.drawn.specs.declared.Answer.TheVariants.{Refused as Undrawn}
 use Rattle.drawn.proofs.Rules.{drawn_refused_with}
 use Rattle.moves.specs.Moves.{move_of}
 use Rattle.moves.specs.Rules.{NetRule, MoveRule}
@@ -90,9 +85,9 @@ pub packed_not_zero : (r : Refusal) → InTable r.number → packed r ≡ 0 → 
 packed_not_zero r h e = omega (arith, listed_range r.number h)
 
 -- a marked refusal has 64 bits
-pub markable : (a : WriteAnswer) → ((r : Refusal) → a ≡ Unwritten r → InTable r.number) → Markable a
-markable (Written size) h = tt
-markable (Unwritten r) h = (listed_range r.number (h r refl)).1
+pub markable : (a : Result ℕ Refusal) → ((r : Refusal) → a ≡ Err r → InTable r.number) → Markable a
+markable (Ok size) h = tt
+markable (Err r) h = (listed_range r.number (h r refl)).1
 
 -- 1 TO 7
 fault_listed : {n : ℕ} → (1 ≤ n) × (n ≤ 7) → InTable n
@@ -163,38 +158,38 @@ module _ (bytes : List ℕ) where
 
 -- THE ANSWERS
 module _ (bytes : List ℕ) (all : Bytes bytes) {r : Refusal} where
-  pub check_listed : check_read (record_read bytes) ≡ Unsound r → InTable r.number
+  pub check_listed : check_read (record_read bytes) ≡ Err r → InTable r.number
   check_listed e = go (record_read bytes) (read_listed bytes all) e
     where
-      go : (g : Got Net) → ListedGot g → check_read g ≡ Unsound r → InTable r.number
+      go : (g : Got Net) → ListedGot g → check_read g ≡ Err r → InTable r.number
       go (got n next) h e = let z : ◌≡◌ {A = ℕ} 0 1 = cc in absurd (omega arith)
       go (refused q) h e = let z : q ≡ r = cc in rw (← z) h
 
-  pub plan_listed : (lent : Lent) → plan_of (record_read bytes) lent ≡ Unplanned r → InTable r.number
+  pub plan_listed : (lent : Lent) → plan_of (record_read bytes) lent ≡ Err r → InTable r.number
   unfolding build_of build_answer
   plan_listed lent e = go (record_read bytes) (read_listed bytes all) e
     where
-      by : (n : Net) (h : Head) (m : ℕ) (o : Option Refusal) → planned_with h m (build_answer every n o) ≡ Unplanned r → o ≡ some r
+      by : (n : Net) (h : Head) (m : ℕ) (o : Option Refusal) → planned_with h m (build_answer every n o) ≡ Err r → o ≡ some r
       by n h m none e = let z : ◌≡◌ {A = ℕ} 0 1 = cc in absurd (omega arith)
       by n h m (some q) e = cc
 
-      go : (g : Got Net) → ListedGot g → plan_of g lent ≡ Unplanned r → InTable r.number
+      go : (g : Got Net) → ListedGot g → plan_of g lent ≡ Err r → InTable r.number
       go (got n next) h e = build_refusal_law n (length n.segments) most_posts lent (by n n.head (length n.segments) (build_refusal every n (length n.segments) most_posts lent) e)
       go (refused q) h e = let z : q ≡ r = cc in rw (← z) h
 
-  pub rewrite_listed : (room : ℕ) → rewrite_of (record_read bytes) room ≡ Unwritten r → InTable r.number
+  pub rewrite_listed : (room : ℕ) → rewrite_of (record_read bytes) room ≡ Err r → InTable r.number
   unfolding write_answer_of
   rewrite_listed room e = go (record_read bytes) (read_listed bytes all) e
     where
-      by : (o : Option Refusal) (size : ℕ) → write_answer_by o size ≡ Unwritten r → o ≡ some r
+      by : (o : Option Refusal) (size : ℕ) → write_answer_by o size ≡ Err r → o ≡ some r
       by none size e = let z : ◌≡◌ {A = ℕ} 0 1 = cc in absurd (omega arith)
       by (some q) size e = cc
 
-      go : (g : Got Net) → ListedGot g → rewrite_of g room ≡ Unwritten r → InTable r.number
+      go : (g : Got Net) → ListedGot g → rewrite_of g room ≡ Err r → InTable r.number
       go (got n next) h e = write_refusal_law n (length n.segments) most_posts room (by (write_refusal n (length n.segments) most_posts room) (length (net_written n)) e)
       go (refused q) h e = let z : q ≡ r = cc in rw (← z) h
 
-  pub move_listed : (f : Form) (room : ℕ) → move_of f (record_read bytes) room ≡ Unwritten r → InTable r.number
+  pub move_listed : (f : Form) (room : ℕ) → move_of f (record_read bytes) room ≡ Err r → InTable r.number
   move_listed f room e = go (rw (refused_by f (record_read bytes) room e) at (move_answers f bytes room all))
     where
       by_net : {n : Net} {q : Refusal} → NetRule f n room (some q) → InTable q.number
@@ -206,15 +201,15 @@ module _ (bytes : List ℕ) (all : Bytes bytes) {r : Refusal} where
       go (MoveRule.not_read w) = read_rule bytes w
       go (MoveRule.was_read w x) = by_net x
 
-  pub margin_listed : (t : Tree) (post : ℕ) → margin_read bytes t post ≡ Unmeasured r → InTable r.number
+  pub margin_listed : (t : Tree) (post : ℕ) → margin_read bytes t post ≡ Err r → InTable r.number
   unfolding margin_of margin_answer
   margin_listed t post e = go (record_read bytes) (read_listed bytes all) e
     where
-      by : (n : Net) (o : Option Refusal) → margin_answer_of (margin_answer every n o t post) ≡ Unmeasured r → o ≡ some r
+      by : (n : Net) (o : Option Refusal) → margin_answer_of (margin_answer every n o t post) ≡ Err r → o ≡ some r
       by n none e = let z : ◌≡◌ {A = ℕ} 0 1 = cc in absurd (omega arith)
       by n (some q) e = cc
 
-      go : (g : Got Net) → ListedGot g → margin_answer_of (margin_said g t post) ≡ Unmeasured r → InTable r.number
+      go : (g : Got Net) → ListedGot g → margin_answer_of (margin_said g t post) ≡ Err r → InTable r.number
       go (got n next) h e = margin_refusal_law n (length n.segments) most_posts post (by n (margin_refusal every n (length n.segments) most_posts post) e)
       go (refused q) h e = let z : q ≡ r = cc in rw (← z) h
 
@@ -232,5 +227,5 @@ refused_listed {n} = go n
       ]
     ]
 
-pub drawn_listed : (run : Run) {r : Refusal} → drawn_of run ≡ Undrawn r → InTable r.number
+pub drawn_listed : (run : Run) {r : Refusal} → drawn_of run ≡ Err r → InTable r.number
 drawn_listed run e = refused_listed (drawn_refused_with run (ap says_of e))

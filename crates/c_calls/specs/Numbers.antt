@@ -1,42 +1,39 @@
--- How an answer stands in one number of 64 bits, for each case of the enums of `net`, `on_records`, `writing`,
--- `margins` and `drawn`. Relies on c_numbers' `Named` for a refusal in one number.
-use Rattle.std.specs.Prelude.{ℕ, ◌≤◌}
-use Rattle.net.specs.declared.Checked.{Checked}
-use Rattle.net.specs.declared.Checked.TheVariants.{Sound, Refused as Unsound}
-use Rattle.drawn.specs.declared.Answer.{Answer}
-use Rattle.drawn.specs.declared.Answer.TheVariants.{Length, Refused as Undrawn}
-use Rattle.margins.specs.declared.MarginAnswer.{MarginAnswer}
-use Rattle.margins.specs.declared.MarginAnswer.TheVariants.{Margin, Refused as Unmeasured}
-use Rattle.writing.specs.declared.WriteAnswer.{WriteAnswer}
-use Rattle.writing.specs.declared.WriteAnswer.TheVariants.{Written, Refused as Unwritten}
-use Rattle.on_records.specs.declared.PlanAnswer.{PlanAnswer}
-use Rattle.on_records.specs.declared.PlanAnswer.TheVariants.{Planned, Refused as Unplanned}
+-- How an answer stands in one number of 64 bits. There are two kinds of numbers, for each case of an answer: one for an
+-- answer that isn't a number, and one for a length. Relies on c_numbers' `Named` for a refusal in one number.
+use Rattle.std.specs.Prelude.{ℕ, ℤ, ◌≤◌, Result, Ok, Err}
+use Rattle.net.specs.Refusals.{Checked}
+use Rattle.net.specs.declared.Plan.{Plan}
+use Rattle.net.specs.declared.Refusal.{Refusal}
 use Rattle.c_numbers.specs.Named.{most_number, packed, marked}
 
 -- 0, or the refusal
-abbrev pub check_number : Checked → ℕ
-check_number Sound = 0
-check_number (Unsound r) = packed r
+abbrev pub zero_or_packed : {A : Type 0} → Result A Refusal → ℕ
+zero_or_packed (Ok x) = 0
+zero_or_packed (Err r) = packed r
 
-abbrev pub plan_number : PlanAnswer → ℕ
-plan_number (Planned h m l s b k) = 0
-plan_number (Unplanned r) = packed r
-
-abbrev pub margin_number : MarginAnswer → ℕ
-margin_number (Margin z) = 0
-margin_number (Unmeasured r) = packed r
-
--- the length of the record that was written, or the refusal
-abbrev pub the_write_number : WriteAnswer → ℕ
-the_write_number (Written size) = size
-the_write_number (Unwritten r) = marked r
+-- the length, or the refusal, marked
+abbrev pub length_or_marked : Result ℕ Refusal → ℕ
+length_or_marked (Ok size) = size
+length_or_marked (Err r) = marked r
 
 -- a refusal has a number that documents 01 and 02 give, so that it has 64 bits when it is marked
-abbrev pub Markable : WriteAnswer → Type 0
-Markable (Written size) = Unit {0}
-Markable (Unwritten r) = r.number ≤ most_number
+abbrev pub Markable : Result ℕ Refusal → Type 0
+Markable (Ok size) = Unit {0}
+Markable (Err r) = r.number ≤ most_number
 
--- the length of a drawn run in sixteenths, or the refusal
-abbrev pub drawn_number : Answer → ℕ
-drawn_number (Length k) = k
-drawn_number (Undrawn r) = marked r
+-- of a check, a plan and a margin
+abbrev pub check_number : Checked → ℕ
+check_number = zero_or_packed
+
+abbrev pub plan_number : Result Plan Refusal → ℕ
+plan_number = zero_or_packed
+
+abbrev pub margin_number : Result ℤ Refusal → ℕ
+margin_number = zero_or_packed
+
+-- of a record that was written, and of a drawn run, in sixteenths
+abbrev pub the_write_number : Result ℕ Refusal → ℕ
+the_write_number = length_or_marked
+
+abbrev pub drawn_number : Result ℕ Refusal → ℕ
+drawn_number = length_or_marked

@@ -81,4 +81,5 @@ pub record NumbersWorked : Type 0 where
   pub drawn_good : drawn_number (drawn_of (the_run_named 0 4623226492472524800 0)) ≡ 200
   pub drawn_rounded : drawn_number (drawn_of (the_run_named 0 4591870180066957722 0)) ≡ 2
   pub drawn_legs_rounded : drawn_number (drawn_of (the_run_named 1 4591870180066957722 4591870180066957722)) ≡ 4
-  pub drawn_long : drawn_number (drawn_of (the_run_named 1 4623226492472524800 4679240012837945344)) ≡ 9223372109869219841
+  pub drawn_long : drawn_number (drawn_of (the_run_named 1 4623226492472524800 4679240012837945344))
+      ≡ 9223372109869219841

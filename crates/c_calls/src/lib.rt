@@ -11,25 +11,38 @@ ghost use Rattle.drawn.specs.Drawn.{drawn_of};
 ghost use Rattle.reading.specs.Answers.{check_read};
 ghost use Rattle.on_records.specs.Asked.{record_read};
 ghost use Rattle.c_numbers.specs.Named.{the_run_named};
-ghost use Rattle.c_calls.specs.Numbers.{check_number, the_write_number, Markable, drawn_number};
+ghost use Rattle.c_calls.specs.Numbers.{zero_or_packed, length_or_marked, Markable, check_number, drawn_number};
 ghost use Rattle.c_calls.specs.Left.{PlanLeaves, RewriteLeaves, MoveLeaves, MarginLeaves};
 
-use c_numbers::{mark, pack, put_front, put_margin, run_named, summary_of, tree_named};
-use margins::MarginAnswer;
-use net::Checked;
-use net::plain::wide;
-use on_records::PlanAnswer;
-use writing::WriteAnswer;
+use c_numbers::{mark, pack, put_front, run_named, summary_of, tree_named};
+use net::Refusal;
+
+// What checking, planning or measuring answers, in a number, which is 0, or the refusal.
+fn refused_number<T: Copy>(answer: Result<T, Refusal>) -> u64
+    ensures { result ≡ zero_or_packed answer }
+{
+    match answer {
+        Ok(_) => 0,
+        Err(refusal) => pack(refusal),
+    }
+}
+
+// What writing or drawing answers, in a number, which is the length, or 2^63 + the refusal.
+fn length_number(answer: Result<u32, Refusal>) -> u64
+    requires { Markable answer }
+    ensures { result ≡ length_or_marked answer }
+{
+    match answer {
+        Ok(length) => u64::from(length),
+        Err(refusal) => mark(refusal),
+    }
+}
 
 // CHECK, for every input: reads the record, and no more. 0, or the refusal.
 pub fn drover_check(bytes: &[u8]) -> u64
     ensures checked { result ≡ check_number (check_read (record_read bytes.now)) }
 {
-    let answer = on_records::check(bytes);
-    match answer {
-        Checked::Sound => 0,
-        Checked::Refused(r) => pack(r),
-    }
+    refused_number(on_records::check(bytes))
 }
 
 // PLAN, for every input: reads the record, builds its trees into the three lent lists and puts the twelve numbers of
@@ -46,32 +59,10 @@ pub fn drover_plan(
         between.new summary.new }
 {
     let answer = on_records::plan(bytes, lightest, shortest, between);
-    match answer {
-        PlanAnswer::Refused(r) => pack(r),
-        PlanAnswer::Planned {
-            head,
-            count,
-            lightest: l,
-            shortest: s,
-            between: b,
-            laid,
-        } => {
-            let values = summary_of(head, count, l, s, b, laid);
-            put_front(&values, summary);
-            0
-        }
+    if let Ok(plan) = answer {
+        put_front(&summary_of(plan), summary);
     }
-}
-
-// What writing answers, in one number: the length, or 2^63 + the refusal.
-fn write_number(answer: WriteAnswer) -> u64
-    requires { Markable answer }
-    ensures { result ≡ the_write_number answer }
-{
-    match answer {
-        WriteAnswer::Written(length) => wide(length),
-        WriteAnswer::Refused(r) => mark(r),
-    }
+    refused_number(answer)
 }
 
 // REWRITE, for every input: reads the record and writes it to the front of the room. The length written, or 2^63 + the
@@ -79,7 +70,7 @@ fn write_number(answer: WriteAnswer) -> u64
 pub fn drover_rewrite(bytes: &[u8], room: &mut [u8]) -> u64
     ensures rewritten { RewriteLeaves bytes.now room.old result room.new }
 {
-    write_number(on_records::rewrite(bytes, room))
+    length_number(on_records::rewrite(bytes, room))
 }
 
 // TO THE SECOND FORM, for every input: reads a record of the first form and writes it to the front of the room with the
@@ -88,7 +79,7 @@ pub fn drover_rewrite(bytes: &[u8], room: &mut [u8]) -> u64
 pub fn drover_to_second(bytes: &[u8], room: &mut [u8]) -> u64
     ensures moved { MoveLeaves Second bytes.now room.old result room.new }
 {
-    write_number(moves::to_second(bytes, room))
+    length_number(moves::to_second(bytes, room))
 }
 
 // TO THE FIRST FORM, for every input: reads a record of the second form, in which every post but the source has the
@@ -97,7 +88,7 @@ pub fn drover_to_second(bytes: &[u8], room: &mut [u8]) -> u64
 pub fn drover_to_first(bytes: &[u8], room: &mut [u8]) -> u64
     ensures moved { MoveLeaves First bytes.now room.old result room.new }
 {
-    write_number(moves::to_first(bytes, room))
+    length_number(moves::to_first(bytes, room))
 }
 
 // MARGIN, for every input: reads the record and puts the margin of a post, in the tree that the number names and by the
@@ -105,15 +96,11 @@ pub fn drover_to_first(bytes: &[u8], room: &mut [u8]) -> u64
 pub fn drover_margin(bytes: &[u8], tree: u32, post: u32, out: &mut [i64]) -> u64
     ensures measured { MarginLeaves bytes.now tree post out.old result out.new }
 {
-    let named = tree_named(tree);
-    let answer = on_records::margin(bytes, named, post);
-    match answer {
-        MarginAnswer::Refused(r) => pack(r),
-        MarginAnswer::Margin(z) => {
-            put_margin(z, out);
-            0
-        }
+    let answer = on_records::margin(bytes, tree_named(tree), post);
+    if let Ok(margin) = answer {
+        put_front(&[margin], out);
     }
+    refused_number(answer)
 }
 
 // A DRAWN RUN, for every input, by the bits of its lengths: 0 for `corner` is a straight run, which has the first
@@ -121,10 +108,5 @@ pub fn drover_margin(bytes: &[u8], tree: u32, post: u32, out: &mut [i64]) -> u64
 pub fn drover_drawn(corner: u32, first: u64, second: u64) -> u64
     ensures drawn { result ≡ drawn_number (drawn_of (the_run_named corner first second)) }
 {
-    let run = run_named(corner, first, second);
-    let answer = drawn::drawn(run);
-    match answer {
-        drawn::Answer::Length(k) => wide(k),
-        drawn::Answer::Refused(r) => mark(r),
-    }
+    length_number(drawn::drawn(run_named(corner, first, second)))
 }

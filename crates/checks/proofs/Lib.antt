@@ -1,4 +1,3 @@
 -- What the proofs of the checks cite; they stand beside it in folders.
-pub mod Tests
 pub mod Ways
 pub mod Says

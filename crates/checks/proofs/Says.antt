@@ -8,7 +8,7 @@ use Rattle.net.specs.Refusals.{first, net_lines, checked_of, says_of, check_of}
 use Rattle.net.specs.declared.Segment.{Segment}
 use Rattle.net.specs.declared.Head.{Head}
 use Rattle.net.specs.declared.Refusal.{Refusal}
-use Rattle.net.specs.declared.Checked.{Checked}
+use Rattle.net.specs.Refusals.{Checked}
 
 -- WHAT AN ANSWER SAYS is what the table gives
 pub says_checked : (r : Option Refusal) → says_of (checked_of r) ≡ r

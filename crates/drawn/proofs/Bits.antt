@@ -11,9 +11,8 @@ use lib.Bits.{bit_and, and_mask, mask_lt}
 use lib.Count.{count_trailing_zeros}
 use lib.Ieee.{binary64, of_fields, of_bits}
 use borrow.Author.Tests.{le-leb, lt-leb}
-use Rattle.drawn.specs.Drawn.{most, the_leg_of}
-use Rattle.drawn.specs.declared.Leg.{Leg}
-use Rattle.drawn.specs.declared.Leg.TheVariants.{Sixteenths, Refuse}
+use Rattle.std.specs.Prelude.{Ok, Err}
+use Rattle.drawn.specs.Drawn.{most, the_leg_of, Leg}
 use Rattle.drawn.proofs.Zeros.{zeros_lt}
 use Rattle.drawn.proofs.Fields.{lead_pos, lead_lt, fields_not_finite, fields_below_zero, fields_zero, fields_too_long, fields_under_one, fields_whole, fields_past, fields_more, shifted_most}
 
@@ -85,17 +84,17 @@ ne_pos n f = omega arith
 
 -- ---- the eight ways
 
-pub bits_not_finite : (b : ℕ) → field_of b ≡ 2047 → BitsAre b (Refuse 13)
+pub bits_not_finite : (b : ℕ) → field_of b ≡ 2047 → BitsAre b (Err 13)
 bits_not_finite b e =
     let s = leb (2 ^ 63) b in
     ap the_leg_of (bits_fields s b refl) ∙ ap (λ (y : ℕ). the_leg_of (of_fields binary64 s y (digits_of b))) e ∙ fields_not_finite s (digits_of b)
 
-pub bits_below_zero : (b : ℕ) → b < 2 ^ 64 → (field_of b ≡ 2047 → ⊥) → 2 ^ 63 < b → BitsAre b (Refuse 14)
+pub bits_below_zero : (b : ℕ) → b < 2 ^ 64 → (field_of b ≡ 2047 → ⊥) → 2 ^ 63 < b → BitsAre b (Err 14)
 bits_below_zero b h n k =
     ap the_leg_of (bits_fields true b (le-leb (2 ^ 63) b (omega arith)))
     ∙ fields_below_zero (field_of b) (digits_of b) (not_top (field_of b) (field_lt b) n) (fields_pos b (size_pos b (size_of b) (and_mask b 63) h k))
 
-pub bits_zero : (b : ℕ) → size_of b ≡ 0 → BitsAre b (Refuse 15)
+pub bits_zero : (b : ℕ) → size_of b ≡ 0 → BitsAre b (Err 15)
 bits_zero b e = let s = leb (2 ^ 63) b in ap the_leg_of (bits_fields s b refl) ∙ fields_zero s (field_of b) (digits_of b) (two_fields b ∙ e)
 
 -- a finite length above zero
@@ -103,21 +102,21 @@ module _ (b : ℕ) (n : field_of b ≡ 2047 → ⊥) (h : b ≤ 2 ^ 63) (z : siz
   plain : the_leg_of (of_bits binary64 b) ≡ the_leg_of (of_fields binary64 false (field_of b) (digits_of b))
   plain = ap the_leg_of (bits_fields false b (lt-leb (2 ^ 63) b (under_sign b (size_of b) (and_mask b 63) h z)))
 
-  pub bits_too_long : 1039 ≤ field_of b → BitsAre b (Refuse 17)
+  pub bits_too_long : 1039 ≤ field_of b → BitsAre b (Err 17)
   bits_too_long l = plain ∙ fields_too_long (field_of b) (digits_of b) (not_top (field_of b) (field_lt b) n) l
 
-  pub bits_under_one : field_of b < 1019 → BitsAre b (Sixteenths 1)
+  pub bits_under_one : field_of b < 1019 → BitsAre b (Ok 1)
   bits_under_one l = plain ∙ fields_under_one (field_of b) (digits_of b) (digits_lt b) (fields_pos b (ne_pos (size_of b) z)) l
 
   -- from 1/16 mm to less than 65,536 mm
   module _ (g : 1019 ≤ field_of b) (l : field_of b < 1039) where
-    pub bits_whole : 1071 ≤ field_of b + zeros_of b → BitsAre b (Sixteenths (whole_of b))
+    pub bits_whole : 1071 ≤ field_of b + zeros_of b → BitsAre b (Ok (whole_of b))
     bits_whole k = plain ∙ fields_whole (field_of b) (digits_of b) (digits_lt b) g l k
 
-    pub bits_past : field_of b + zeros_of b < 1071 → most ≤ whole_of b → BitsAre b (Refuse 17)
+    pub bits_past : field_of b + zeros_of b < 1071 → most ≤ whole_of b → BitsAre b (Err 17)
     bits_past k m = plain ∙ fields_past (field_of b) (digits_of b) (digits_lt b) g l k m
 
-    pub bits_more : field_of b + zeros_of b < 1071 → whole_of b < most → BitsAre b (Sixteenths (whole_of b + 1))
+    pub bits_more : field_of b + zeros_of b < 1071 → whole_of b < most → BitsAre b (Ok (whole_of b + 1))
     bits_more k m = plain ∙ fields_more (field_of b) (digits_of b) (digits_lt b) g l k m
 
 -- what the shift leaves is at most 65,535.9375 mm in sixteenths, and so fits a u32

@@ -13,9 +13,8 @@ use lib.Ieee.{nan, inf, binary64, odd, of_fields}
 use lib.Ieee.Exact.{odd_sign}
 use lib.Ieee.Nearest.{div_same}
 use borrow.Author.Tests.{ne_eqb}
-use Rattle.drawn.specs.Drawn.{most, up_to, measured, the_leg_of}
-use Rattle.drawn.specs.declared.Leg.{Leg}
-use Rattle.drawn.specs.declared.Leg.TheVariants.{Sixteenths, Refuse}
+use Rattle.std.specs.Prelude.{Ok, Err}
+use Rattle.drawn.specs.Drawn.{most, up_to, measured, the_leg_of, Leg}
 use Rattle.drawn.proofs.Zeros.{zeros_div, zeros_odd, pow_multiple, pow_no_multiple}
 use Rattle.drawn.proofs.Measured.{measured_below_zero, measured_zero, measured_too_long, measured_good, up_whole, up_more, up_ge, leg_value}
 
@@ -70,27 +69,27 @@ zeros_apart q x =
 
 -- ---- 13, 14, 15
 
-pub fields_not_finite : (s : Bool) (t : ℕ) → FieldsAre s 2047 t (Refuse 13)
+pub fields_not_finite : (s : Bool) (t : ℕ) → FieldsAre s 2047 t (Err 13)
 unfolding of_fields the_leg_of
 fields_not_finite s t = go (eqb t 0)
   where
-    go : (b : Bool) → the_leg_of (cond b (inf s) nan) ≡ Refuse 13
+    go : (b : Bool) → the_leg_of (cond b (inf s) nan) ≡ Err 13
     go true = refl
     go false = refl
 
-pub fields_below_zero : (x t : ℕ) → x < 2047 → 0 < x * 2 ^ 52 + t → FieldsAre true x t (Refuse 14)
+pub fields_below_zero : (x t : ℕ) → x < 2047 → 0 < x * 2 ^ 52 + t → FieldsAre true x t (Err 14)
 fields_below_zero zero t h p = fields_low true t ∙ measured_below_zero (16 * (t * 1)) (2 ^ 1074) (low_pos t p)
 fields_below_zero (suc x) t h p = fields_mid true x t h ∙ measured_below_zero (16 * ((2 ^ 52 + t) * 2 ^ x)) (2 ^ 1074) (mid_pos x t)
 
 both_zero : (x t : ℕ) → x * 2 ^ 52 + t ≡ 0 → (x ≡ 0) × (t ≡ 0)
 both_zero x t e = omega arith
 
-pub fields_zero : (s : Bool) (x t : ℕ) → x * 2 ^ 52 + t ≡ 0 → FieldsAre s x t (Refuse 15)
+pub fields_zero : (s : Bool) (x t : ℕ) → x * 2 ^ 52 + t ≡ 0 → FieldsAre s x t (Err 15)
 fields_zero s x t e = let z = both_zero x t e in rw (z.0, z.1) (fields_low s 0 ∙ measured_zero s (2 ^ 1074))
 
 -- ---- below the field 1019 a length is below 1/16 mm, and is rounded up to that
 
-under_one : (n d : ℕ) → 0 < n → n < d → measured false n d ≡ Sixteenths 1
+under_one : (n d : ℕ) → 0 < n → n < d → measured false n d ≡ Ok 1
 under_one n d N h =
     measured_good n d 1 N (up_more n d (subst (λ (y : ℕ). 0 < y) (sym (mod-eq_of_lt h)) N) ∙ ap (λ (y : ℕ). y + 1) (div-eq_of_lt h)) (lit≤ tt)
 
@@ -100,7 +99,7 @@ small_lt t h = omega arith
 pub lead_lt : (t : ℕ) → t < 2 ^ 52 → 2 ^ 52 + t < 2 ^ 53
 lead_lt t h = omega arith
 
-pub fields_under_one : (x t : ℕ) → t < 2 ^ 52 → 0 < x * 2 ^ 52 + t → x < 1019 → FieldsAre false x t (Sixteenths 1)
+pub fields_under_one : (x t : ℕ) → t < 2 ^ 52 → 0 < x * 2 ^ 52 + t → x < 1019 → FieldsAre false x t (Ok 1)
 fields_under_one zero t b p l =
     fields_low false t
     ∙ under_one (16 * (t * 1)) (2 ^ 1074) (low_pos t p) (lt_of_lt_of_le (small_lt t b) (pow_mono {i = 56} {j = 1074} (lit≤ tt)))
@@ -121,7 +120,7 @@ above x h = omega arith
 lead_le : (t : ℕ) → 2 ^ 52 ≤ 2 ^ 52 + t
 lead_le t = omega arith
 
-pub fields_too_long : (x t : ℕ) → x < 2047 → 1039 ≤ x → FieldsAre false x t (Refuse 17)
+pub fields_too_long : (x t : ℕ) → x < 2047 → 1039 ≤ x → FieldsAre false x t (Err 17)
 fields_too_long zero t h l = absurd (no_low l)
 fields_too_long (suc x) t h l =
     let q = 2 ^ 52 + t in
@@ -173,7 +172,7 @@ zero_field h = omega arith
 long : (x z : ℕ) → 1071 ≤ suc x + z → 1074 ≤ z + (x + 4)
 long x z h = omega arith
 
-pub fields_whole : (x t : ℕ) → t < 2 ^ 52 → 1019 ≤ x → x < 1039 → 1071 ≤ x + count_trailing_zeros 64 (2 ^ 52 + t) → FieldsAre false x t (Sixteenths (shifted x t))
+pub fields_whole : (x t : ℕ) → t < 2 ^ 52 → 1019 ≤ x → x < 1039 → 1071 ≤ x + count_trailing_zeros 64 (2 ^ 52 + t) → FieldsAre false x t (Ok (shifted x t))
 fields_whole zero t b g l k = absurd (zero_field g)
 fields_whole (suc x) t b g l k =
     let q = 2 ^ 52 + t in
@@ -203,7 +202,7 @@ fields_up x t b l k =
 past : (y : ℕ) → most ≤ y → most < y + 1
 past y h = omega arith
 
-pub fields_past : (x t : ℕ) → t < 2 ^ 52 → 1019 ≤ x → x < 1039 → x + count_trailing_zeros 64 (2 ^ 52 + t) < 1071 → most ≤ shifted x t → FieldsAre false x t (Refuse 17)
+pub fields_past : (x t : ℕ) → t < 2 ^ 52 → 1019 ≤ x → x < 1039 → x + count_trailing_zeros 64 (2 ^ 52 + t) < 1071 → most ≤ shifted x t → FieldsAre false x t (Err 17)
 fields_past zero t b g l k m = absurd (zero_field g)
 fields_past (suc x) t b g l k m =
     fields_mid false x t (omega arith)
@@ -214,7 +213,7 @@ room : (y : ℕ) → y < most → y + 1 ≤ most
 room y h = omega arith
 
 pub fields_more : (x t : ℕ) → t < 2 ^ 52 → 1019 ≤ x → x < 1039 → x + count_trailing_zeros 64 (2 ^ 52 + t) < 1071 → shifted x t < most
-    → FieldsAre false x t (Sixteenths (shifted x t + 1))
+    → FieldsAre false x t (Ok (shifted x t + 1))
 fields_more zero t b g l k m = absurd (zero_field g)
 fields_more (suc x) t b g l k m =
     fields_mid false x t (omega arith)

@@ -12,25 +12,25 @@ use lib.Ieee.Fits.{down_pos}
 use lib.Ieee.Exact.{HasValue}
 use lib.Ieee.Nearest.{div_same}
 use borrow.Author.Tests.{lt-ltb, le-ltb, ne_eqb}
+use Rattle.std.specs.Prelude.{Ok, Err}
 use Rattle.drawn.specs.Drawn.{most, up_to, measured, the_leg_of}
-use Rattle.drawn.specs.declared.Leg.TheVariants.{Sixteenths, Refuse}
 
 -- ---- each case
 
-pub measured_below_zero : (n d : ℕ) → 0 < n → measured true n d ≡ Refuse 14
+pub measured_below_zero : (n d : ℕ) → 0 < n → measured true n d ≡ Err 14
 measured_below_zero n d h = simp (lt-ltb 0 n h)
 
-pub measured_zero : (s : Bool) (d : ℕ) → measured s 0 d ≡ Refuse 15
+pub measured_zero : (s : Bool) (d : ℕ) → measured s 0 d ≡ Err 15
 measured_zero true d = refl
 measured_zero false d = refl
 
 pub pos_ne : (n : ℕ) → 0 < n → n ≡ 0 → ⊥
 pos_ne n h e = omega arith
 
-pub measured_too_long : (n d : ℕ) → 0 < n → most < up_to n d → measured false n d ≡ Refuse 17
+pub measured_too_long : (n d : ℕ) → 0 < n → most < up_to n d → measured false n d ≡ Err 17
 measured_too_long n d h k = simp (ne_eqb n 0 (pos_ne n h), lt-ltb most (up_to n d) k)
 
-pub measured_good : (n d k : ℕ) → 0 < n → up_to n d ≡ k → k ≤ most → measured false n d ≡ Sixteenths k
+pub measured_good : (n d k : ℕ) → 0 < n → up_to n d ≡ k → k ≤ most → measured false n d ≡ Ok k
 measured_good n d k h e l = simp (ne_eqb n 0 (pos_ne n h), e, le-ltb most k l)
 
 -- ---- rounding up

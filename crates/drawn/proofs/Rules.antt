@@ -12,15 +12,12 @@ use lib.Dec.{T, leb, leb→le, nleb→lt}
 use lib.Ieee.{Float, nan, inf, fin, up, down}
 use lib.Ieee.Fits.{up_pos, down_pos}
 use borrow.Author.Tests.{le-leb, lt-leb}
-use Rattle.drawn.specs.Drawn.{most, up_to, measured, the_leg_of, refusal, straight_of, corner_of, drawn_of}
+use Rattle.std.specs.Prelude.{Ok, Err}
+use Rattle.drawn.specs.Drawn.{most, up_to, measured, the_leg_of, refusal, straight_of, corner_of, drawn_of, Answer, Leg}
 use Rattle.drawn.specs.Says.{Says, sixteenths, refused, says_of, leg_says}
 use Rattle.drawn.specs.Rules.{RoundsTo, Means, not_a_number, infinite, below_zero, is_zero, too_long, good, Answers, straight, first_refused, second_refused, together, corner, RefusedWith}
 use Rattle.drawn.specs.declared.Run.{Run}
 use Rattle.drawn.specs.declared.Run.TheVariants.{Straight, Corner}
-use Rattle.drawn.specs.declared.Answer.{Answer}
-use Rattle.drawn.specs.declared.Answer.TheVariants.{Length, Refused}
-use Rattle.drawn.specs.declared.Leg.{Leg}
-use Rattle.drawn.specs.declared.Leg.TheVariants.{Sixteenths, Refuse}
 use Rattle.drawn.proofs.Measured.{measured_below_zero, measured_zero, measured_too_long, measured_good, up_bounds, up_only}
 
 le_or_lt : (a b : ℕ) → (a ≤ b) ⊎ (b < a)
@@ -100,24 +97,24 @@ leg_means p x = let s = some_rule p x in subst (λ (l : Says). Means p x l) (sym
 -- ---- a run
 
 straight_says : (a : Leg) → says_of (straight_of a) ≡ leg_says 0 a
-straight_says (Sixteenths k) = refl
-straight_says (Refuse n) = refl
+straight_says (Ok k) = refl
+straight_says (Err n) = refl
 
 first_says : (a b : Leg) (n p : ℕ) → leg_says 0 a ≡ refused n p → says_of (corner_of a b) ≡ refused n p
-first_says (Sixteenths k) b n p h = cc
-first_says (Refuse m) b n p h = h
+first_says (Ok k) b n p h = cc
+first_says (Err m) b n p h = h
 
 second_says : (a b : Leg) (k n p : ℕ) → leg_says 0 a ≡ sixteenths k → leg_says 1 b ≡ refused n p → says_of (corner_of a b) ≡ refused n p
-second_says (Sixteenths j) (Sixteenths l) k n p g h = cc
-second_says (Sixteenths j) (Refuse m) k n p g h = h
-second_says (Refuse m) b k n p g h = cc
+second_says (Ok j) (Ok l) k n p g h = cc
+second_says (Ok j) (Err m) k n p g h = h
+second_says (Err m) b k n p g h = cc
 
 -- a leg that says a length is that many sixteenths
-is_length : (p : ℕ) (a : Leg) (k : ℕ) → leg_says p a ≡ sixteenths k → a ≡ Sixteenths k
-is_length p (Sixteenths j) k h = cc
-is_length p (Refuse n) k h = cc
+is_length : (p : ℕ) (a : Leg) (k : ℕ) → leg_says p a ≡ sixteenths k → a ≡ Ok k
+is_length p (Ok j) k h = cc
+is_length p (Err n) k h = cc
 
-both_says : (a b : Leg) (k l : ℕ) → leg_says 0 a ≡ sixteenths k → leg_says 1 b ≡ sixteenths l → corner_of a b ≡ corner_of (Sixteenths k) (Sixteenths l)
+both_says : (a b : Leg) (k l : ℕ) → leg_says 0 a ≡ sixteenths k → leg_says 1 b ≡ sixteenths l → corner_of a b ≡ corner_of (Ok k) (Ok l)
 both_says a b k l g h = rw (is_length 0 a k g, is_length 1 b l h)
 
 -- "it has no other": an answer by the rules is the one that is computed
@@ -187,10 +184,10 @@ outcome_only r a s p q = ap says_of p ∙ drawn_only q
 
 -- two answers that say the same are the same
 pub same_says : (a b : Answer) → says_of a ≡ says_of b → a ≡ b
-same_says (Length k) (Length l) h = cc
-same_says (Length k) (Refused s) h = cc
-same_says (Refused r) (Length l) h = cc
-same_says (Refused r) (Refused s) h = ap₂ refusal (ap number_of h) (ap place_of h)
+same_says (Ok k) (Ok l) h = cc
+same_says (Ok k) (Err s) h = cc
+same_says (Err r) (Ok l) h = cc
+same_says (Err r) (Err s) h = ap₂ refusal (ap number_of h) (ap place_of h)
   where
     number_of : Says → ℕ
     number_of (sixteenths k) = k

@@ -4,21 +4,22 @@
 // times the length, rounded up to a whole number, or that of each leg, added as whole numbers. Or it
 // refuses, with a number:
 //   13 not finite, 14 below zero, 15 zero, of either sign,
-//   17 above 1,048,575 sixteenths once rounded, or the legs together;
+//   17 above 1,048,575 sixteenths (65,535.9375 mm) once rounded, or the legs together;
 // and a place: 0 for the length or the first leg, 1 for the second leg, 2 for the legs together.
 // The first leg is looked at before the second, and the second before the sum. Every `f64` has an
 // answer; 16 is a number of the table that no run is refused with.
 //
 // The contracts speak of the float's value (specs/Drawn.antt, and rule by rule specs/Rules.antt).
-// The code works it out from the bits. Relies on `net` for the refusal's type alone.
+// The code works it out from the bits. Relies on `net` for the refusal and the greatest length.
 #![tactic(auto)]
 
 ghost use Rattle.std.specs.Prelude.{◌≡◌};
 ghost use Rattle.std.specs.Float.{binary64};
 ghost use Rattle.std.specs.Float.Ieee.{of_bits};
-ghost use Rattle.drawn.specs.Drawn.{the_leg_of, refusal, straight_of, corner_of, drawn_of};
+ghost use Rattle.drawn.specs.Drawn.{the_leg_of, at_place, corner_of, drawn_of};
 
-use net::Refusal;
+use net::plain::refuse;
+use net::{LONGEST, Refusal};
 
 // A run as it is drawn: lengths in millimetres.
 #[derive(Clone, Copy)]
@@ -26,35 +27,6 @@ pub enum Run {
     Straight(f64),
     Corner(f64, f64),
 }
-
-// A length in sixteenths, or a refusal.
-#[derive(Clone, Copy)]
-pub enum Answer {
-    Length(u32),
-    Refused(Refusal),
-}
-
-// One leg: so many sixteenths, or the number of its refusal.
-#[derive(Clone, Copy)]
-enum Leg {
-    Sixteenths(u32),
-    Refuse(u32),
-}
-
-// Refusal 13: a drawn length that is not finite.
-const NOT_FINITE: u32 = 13;
-
-// Refusal 14: one below zero.
-const BELOW_ZERO: u32 = 14;
-
-// Refusal 15: zero, of either sign.
-const ZERO: u32 = 15;
-
-// Refusal 17: one above 65,535.9375 mm once rounded, or the legs together.
-const TOO_LONG: u32 = 17;
-
-// 65,535.9375 mm in sixteenths.
-const MOST: u64 = net::LONGEST as u64;
 
 // The sign of an f64. Minus zero is the sign alone; what is below zero is more.
 const SIGN: u64 = 0x8000_0000_0000_0000;
@@ -81,98 +53,69 @@ const ONE_FIELD: u64 = 1019;
 // The field of 65,536 = 2 ^ (1039 - 1023) mm, the least multiple of 1/16 mm above 65,535.9375.
 const LONG_FIELD: u64 = 1039;
 
-// The leg whose bit pattern is `bits`. In sixteenths it is significand * 2 ^ (field - 1071), so the
-// zeros at the significand's end together with the field say whether that is a whole number; where
-// it isn't, one more than the whole part is. A length below 1/16 mm is rounded up to it: a subnormal
-// too, which has the field 0 and no leading one.
-fn leg_of_bits(bits: u64) -> Leg
-    ensures { result ≡ the_leg_of (of_bits binary64 bits) }
+// The leg whose bit pattern is `bits`, refused at `place`. In sixteenths it is significand * 2 ^ (field - 1071), so
+// the zeros at the significand's end together with the field say whether that is a whole number; where it isn't, one
+// more than the whole part is. A length below 1/16 mm is rounded up to it: a subnormal too, which has the field 0 and
+// no leading one.
+fn leg_of_bits(bits: u64, place: u32) -> Result<u32, Refusal>
+    ensures { result ≡ at_place place (the_leg_of (of_bits binary64 bits)) }
 {
     let size = bits & SIZE;
     let field = size >> 52;
     if field == TOP_FIELD {
-        return Leg::Refuse(NOT_FINITE);
+        return refuse(13, place);
     }
     if bits > SIGN {
-        return Leg::Refuse(BELOW_ZERO);
+        return refuse(14, place);
     }
     if size == 0 {
-        return Leg::Refuse(ZERO);
+        return refuse(15, place);
     }
-    let significand = LEADING_ONE + (bits & DIGITS);
-    let zeros = u64::trailing_zeros(significand) as u64;
     if field >= LONG_FIELD {
-        return Leg::Refuse(TOO_LONG);
+        return refuse(17, place);
     }
     if field < ONE_FIELD {
-        return Leg::Sixteenths(1);
+        return Ok(1);
     }
-    let whole = significand >> (SIXTEENTHS_FIELD - field);
+    let significand = LEADING_ONE + (bits & DIGITS);
+    let zeros = u64::from(significand.trailing_zeros());
+    let whole = (significand >> (SIXTEENTHS_FIELD - field)) as u32;
     if field + zeros >= SIXTEENTHS_FIELD {
-        return Leg::Sixteenths(whole as u32);
+        return Ok(whole);
     }
-    if whole >= MOST {
-        return Leg::Refuse(TOO_LONG);
+    if whole >= LONGEST {
+        return refuse(17, place);
     }
-    Leg::Sixteenths((whole + 1) as u32)
+    Ok(whole + 1)
 }
 
-// One leg. The test is for what is taken: a not-a-number fails it, as it fails every comparison,
-// even with itself.
-fn leg_of(x: f64) -> Leg
-    ensures { result ≡ the_leg_of x }
+// The leg that is drawn as `x`, refused at `place`.
+fn leg_of(x: f64, place: u32) -> Result<u32, Refusal>
+    ensures { result ≡ at_place place (the_leg_of x) }
 {
-    if x == x {
-        leg_of_bits(f64::to_bits(x))
-    } else {
-        Leg::Refuse(NOT_FINITE)
+    if x.is_nan() {
+        return refuse(13, place);
     }
+    leg_of_bits(x.to_bits(), place)
 }
 
-// A refusal, with its number and its place.
-fn refused(number: u32, place: u32) -> Answer
-    ensures { result ≡ refusal number place }
+// A corner, by its two legs: the first leg's refusal, then the second's, then the sum's.
+fn corner(x: f64, y: f64) -> Result<u32, Refusal>
+    ensures { result ≡ corner_of (the_leg_of x) (the_leg_of y) }
 {
-    Answer::Refused(Refusal { number, place })
-}
-
-// The answer for a straight run, by its one leg.
-fn straight(leg: Leg) -> Answer
-    ensures { result ≡ straight_of leg }
-{
-    match leg {
-        Leg::Sixteenths(k) => Answer::Length(k),
-        Leg::Refuse(number) => refused(number, 0),
+    let sum = leg_of(x, 0)? + leg_of(y, 1)?;
+    if sum > LONGEST {
+        return refuse(17, 2);
     }
-}
-
-// The answer for a corner, by its two legs: the first leg's refusal, then the second's, then the
-// sum's.
-fn corner(first: Leg, second: Leg) -> Answer
-    ensures { result ≡ corner_of first second }
-{
-    match first {
-        Leg::Sixteenths(k) => match second {
-            Leg::Sixteenths(l) => {
-                let sum = k as u64 + l as u64;
-                if sum <= MOST {
-                    Answer::Length(sum as u32)
-                } else {
-                    refused(TOO_LONG, 2)
-                }
-            }
-            Leg::Refuse(number) => refused(number, 1),
-        },
-        Leg::Refuse(number) => refused(number, 0),
-    }
+    Ok(sum)
 }
 
 // The length of a drawn run in sixteenths, or its refusal.
-pub fn drawn(run: Run) -> Answer
+pub fn drawn(run: Run) -> Result<u32, Refusal>
     ensures drawn { result ≡ drawn_of run }
 {
     match run {
-        Run::Straight(x) => straight(leg_of(x)),
-        Run::Corner(x, y) => corner(leg_of(x), leg_of(y)),
+        Run::Straight(x) => leg_of(x, 0),
+        Run::Corner(x, y) => corner(x, y),
     }
 }

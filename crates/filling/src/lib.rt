@@ -8,7 +8,8 @@ use std::io;
 use std::io::Read;
 
 // Reads until the room is full or the input ends, and answers how many bytes it put at the room's front. Those bytes
-// are what the reader has lost, and where they don't fill the room it has none left. A read that fails ends it.
+// are what the reader has lost, and where they don't fill the room it has none left. A read that fails ends it. Counted
+// here, and not by `read_exact`: to that an input that ends early is an error, and how far it came isn't said.
 pub fn fill<R: Read>(reader: &mut R, room: &mut [u8]) -> io::Result<usize>
     ensures within { IfOk result (λ n. n ≤ size room.new) }
     ensures taken { IfOk result (λ n. Consumes (R.remaining reader.old) (R.remaining reader.new) (take n room.new)) }

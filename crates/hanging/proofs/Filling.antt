@@ -1,35 +1,29 @@
--- Filling a list: the loop of `fill`, and that its contract has one outcome. Rests on `Lists`.
-use mathlib.Core.Path.{◌≡◌, refl, sym, ◌∙◌}
-use mathlib.Core.List.{List}
+-- Filling a list: what stands in it after `list[..n].fill(e)`, and that what `Filled` says has one outcome. Rests on
+-- `Lists`.
+use mathlib.Core.Path.{◌≡◌, sym, ap, ◌∙◌}
+use mathlib.Core.List.{List, ◌++◌}
 use mathlib.Core.Logic.{⊎_elim}
-use Prim.Native.Nat.{ℕ, ◌+◌, ◌<◌, ◌≤◌}
-use native.Mathlib.Nat.{not-suc-le-zero}
+use Prim.Native.Nat.{ℕ, ◌≤◌}
 use native.Mathlib.Omega.{arith}
-use lib.ListN.{length, set, length-set}
-use lib.Seq.{ext_get_or}
+use lib.ListN.{length, get_or, take, drop, replicate, length-append, length-drop, get_or-append}
+use lib.Seq.{ext_get_or, length-take-le}
+use Rattle.std.proofs.lemmas.List.{length-replicate, get_or-replicate}
 use Rattle.hanging.specs.Lists.{note, Filled}
-use Rattle.hanging.proofs.Lists.{below?, last?, stored}
+use Rattle.hanging.proofs.Lists.{below?, behind}
 
--- the first v entries are e, and the others as they were
-pub record Filling (e v : ℕ) (l₀ l : List ℕ) : Type 0 where
-  pub same : length l ≡ length l₀
-  pub gone : (x : ℕ) → x < v → note l x ≡ e
-  pub rest : (x : ℕ) → v ≤ x → note l x ≡ note l₀ x
+-- the list after `l₀[..n].fill(e)`, whose first part became f
+pub filled_many : {n : ℕ} (e : ℕ) {f : List ℕ} (l₀ : List ℕ) → n ≤ length l₀ → f ≡ replicate (length (take n l₀)) e → length (f ++ drop n l₀) ≡ length l₀
+filled_many {n} e {f} l₀ h is =
+    omega (arith, length-append f (drop n l₀), length-drop n l₀, ap length is, length-replicate (length (take n l₀)) e, length-take-le n l₀ h)
 
-pub filling_none : {e : ℕ} (l : List ℕ) → Filling e 0 l l
-filling_none l = record { same = refl; gone = λ x h. absurd (not-suc-le-zero h); rest = λ x h. refl }
-
-pub filling_more : {e v : ℕ} {l₀ l : List ℕ} → Filling e v l₀ l → v < length l₀ → Filling e (v + 1) l₀ (set l v e)
-filling_more {e} {v} {l₀} {l} f h =
-    let i : v < length l = omega (arith, f.same) in
+pub filled_front : {n : ℕ} (e : ℕ) {f : List ℕ} (l₀ : List ℕ) → n ≤ length l₀ → f ≡ replicate (length (take n l₀)) e → Filled n e (note l₀) (note (f ++ drop n l₀))
+filled_front {n} e {f} l₀ h is =
+    let k : length f ≡ n = omega (arith, ap length is, length-replicate (length (take n l₀)) e, length-take-le n l₀ h) in
+    let g : f ≡ replicate n e = rw (← length-take-le n l₀ h) is in
     record {
-      same = simp length-set f.same;
-      gone = λ x g. ⊎_elim (λ p. p.1) (λ p. p.1 ∙ ⊎_elim (λ q. absurd (p.0 q)) (λ lt. f.gone x lt) (last? x v g)) (stored l v x e 0 i);
-      rest = λ x g. ⊎_elim (λ p. absurd (omega (arith, p.0))) (λ p. p.1 ∙ f.rest x (omega arith)) (stored l v x e 0 i);
+      gone = λ v p. get_or-append f (drop n l₀) 0 v (omega arith) ∙ ap (λ (l : List ℕ). get_or l v 0) g ∙ get_or-replicate n v e 0 p;
+      rest = λ v p. behind n f l₀ k v p;
     }
-
-pub filled : {e n : ℕ} {l₀ l : List ℕ} → Filling e n l₀ l → Filled n e (note l₀) (note l)
-filled f = record { gone = f.gone; rest = f.rest }
 
 -- two lists, equally long, that were filled alike are equal
 pub filled_one : {n e : ℕ} {before : ℕ → ℕ} {l l' : List ℕ} → length l ≡ length l' → Filled n e before (note l) → Filled n e before (note l') → l ≡ l'

@@ -2,88 +2,25 @@
 use mathlib.Core.Path.{◌≡◌, refl, sym, ap, ◌∙◌}
 use mathlib.Core.Bool.{Bool, true, false, ◌&&◌, cond}
 use mathlib.Core.List.{List, ◌++◌}
-use mathlib.Core.Logic.{⊎_elim}
 use Prim.Native.Nat.{ℕ, ◌+◌, ◌<◌, ◌≤◌}
 use native.Mathlib.Omega.{arith}
 use native.Mathlib.Numerals.{add-one}
-use lib.ListN.{length, set, take, drop}
-use lib.Seq.{get_or-set_other}
+use lib.ListN.{length, take, drop}
 use lib.Dec.{eqb}
-use borrow.Author.Tests.{eq-eqb, ne_eqb}
+use borrow.Author.Tests.{ne_eqb}
 use Rattle.net.specs.Words.{only, lowest, no_segment}
 use Rattle.net.specs.Net.{segments_of}
 use Rattle.net.specs.Trees.{none_yet, fits, hung}
 use Rattle.net.proofs.Words.{tab_at}
 use Rattle.net.proofs.Hung.{length_hung}
-use Rattle.hanging.specs.Lists.{flag, note, Filled, Sides, Low}
-use Rattle.hanging.specs.Hooks.{Hooked, Hooks, fitting}
-use Rattle.hanging.proofs.Lists.{same?, stored, taken_at, front_is}
+use Rattle.hanging.specs.Lists.{flag, note, Filled, Sides}
+use Rattle.hanging.specs.Hooks.{Hooks, fitting}
+use Rattle.hanging.proofs.Lists.{taken_at, front_is}
 use Rattle.hanging.proofs.Sides.{sides_many, sides_are}
-
--- ONE END. a store, and none
-pub hooked_so : {u v i c : ℕ} {d : ℕ → ℕ} (t : List ℕ) → v < length t → note t v ≡ 65535 → d u + c ≡ d v → Hooked u v i c d t (set t v i)
-hooked_so {u} {v} {i} {c} {d} t h e f =
-    record {
-      hung = ⊎_elim (λ p. p.1) (λ p. absurd (p.0 refl)) (stored t v v i 0 h) ∙ rw (eq-eqb (note t v) no_segment e, eq-eqb (d u + c) (d v) f);
-      rest = λ z ne. get_or-set_other t v z i 0 ne;
-    }
-
-pub hooked_other : {u v i c : ℕ} {d : ℕ → ℕ} {t : List ℕ} → (note t v ≡ 65535 → ⊥) → Hooked u v i c d t t
-hooked_other {u} {v} {i} {c} {d} {t} ne = record { hung = rw (ne_eqb (note t v) no_segment ne); rest = λ z k. refl }
 
 and_false : (a : Bool) → a && false ≡ false
 and_false true = refl
 and_false false = refl
-
-pub hooked_not : {u v i c : ℕ} {d : ℕ → ℕ} {t : List ℕ} → (d u + c ≡ d v → ⊥) → Hooked u v i c d t t
-hooked_not {u} {v} {i} {c} {d} {t} ne = record { hung = rw (ne_eqb (d u + c) (d v) ne, and_false (eqb (note t v) no_segment)); rest = λ z k. refl }
-
--- BOTH ENDS. a second look at the same post changes nothing
-twice : (i x : ℕ) (e q : Bool) → eqb x no_segment ≡ e → only (eqb (only (e && q) (λ _. i) x) no_segment && q) (λ _. i) (only (e && q) (λ _. i) x) ≡ only (e && q) (λ _. i) x
-twice i x true true h = pick (eqb i no_segment)
-  where
-    pick : (t : Bool) → only (t && true) (λ _. i) i ≡ i
-    pick true = refl
-    pick false = refl
-twice i x true false h = rw (h)
-twice i x false q h = rw (h)
-
-module _ {x y i c : ℕ} {d : ℕ → ℕ} {t t' t'' : List ℕ} (p : Hooked y x i c d t t') (q : Hooked x y i c d t' t'') where
-  at_both : x ≡ y → note t'' y ≡ only (eqb (note t y) no_segment && fitting x y c d y) (λ _. i) (note t y)
-  at_both e =
-      let s = eqb (note t y) no_segment in
-      let f = eqb (d y + c) (d y) in
-      let g : note t' y ≡ only (s && f) (λ _. i) (note t y) = rw e at p.hung in
-      let k : note t'' y ≡ only (eqb (note t' y) no_segment && f) (λ _. i) (note t' y) = rw e at q.hung in
-      let z : fitting x y c d y ≡ f = rw (eq-eqb x y e) in
-      rw z (k ∙ rw g (twice i (note t y) s f refl))
-
-  at_x : (x ≡ y → ⊥) → note t'' x ≡ only (eqb (note t x) no_segment && fitting x y c d x) (λ _. i) (note t x)
-  at_x ne = q.rest x ne ∙ p.hung ∙ rw (eq-eqb x x refl)
-
-  at_y : (x ≡ y → ⊥) → note t'' y ≡ only (eqb (note t y) no_segment && fitting x y c d y) (λ _. i) (note t y)
-  at_y ne = rw (ne_eqb x y ne, eq-eqb y y refl) (q.hung ∙ rw (p.rest y (λ e. ne (sym e))))
-
-  at_none : (v : ℕ) → (v ≡ x → ⊥) → (v ≡ y → ⊥) → note t'' v ≡ only (eqb (note t v) no_segment && fitting x y c d v) (λ _. i) (note t v)
-  at_none v nx ny = q.rest v ny ∙ p.rest v nx ∙ rw (ne_eqb x v (λ e. nx (sym e)), ne_eqb y v (λ e. ny (sym e)), and_false (eqb (note t v) no_segment))
-
-  pub hooks : Hooks x y i c d t t''
-  hooks =
-      record {
-        each = λ v.
-            ⊎_elim
-            (λ e. rw e (⊎_elim at_both at_y (same? x y)))
-            (λ ny. ⊎_elim (λ e. rw e (at_x (λ z. ny (e ∙ z)))) (λ nx. at_none v nx ny) (same? v x))
-            (same? v y);
-      }
-
--- what is asked where the ends are posts
-pub hook_in : {posts k x y x₀ y₀ : ℕ} {dist : List ℕ} → Low posts dist → posts ≤ k → x₀ < posts → y₀ < posts → x ≡ x₀ → y ≡ y₀
-    → ((x < length dist) × (y < length dist) × (x < k) × (y < k)) × ((note dist x ≤ none_yet) × (note dist y ≤ none_yet))
-hook_in {posts} {k} {x} {y} {x₀} {y₀} {dist} l h p q e f =
-    let a : x < posts = rw e p in
-    let b : y < posts = rw f q in
-    ((omega (arith, l.many), omega (arith, l.many), omega arith, omega arith), (l.most x a, l.most y b))
 
 -- THE LOOP. the first i segments were looked at; t₀ is the list where the loop begins
 pub record Hanging (a b weights : List ℕ) (present : List Bool) (posts : ℕ) (dist : List ℕ) (i : ℕ) (t₀ t : List ℕ) : Type 0 where
@@ -104,9 +41,6 @@ module _ {a b weights : List ℕ} {present : List Bool} {posts : ℕ} (z : Sides
       pick false = z.ends.a_in i h o
 
 module _ {a b weights : List ℕ} {present : List Bool} {posts : ℕ} {dist : List ℕ} where
-  pub hanging_none : {l : ℕ → ℕ} {t : List ℕ} → Filled posts 65535 l (note t) → Hanging a b weights present posts dist 0 t t
-  hanging_none f = record { up_to = omega arith; same = refl; each = f.gone; rest = λ v h. refl }
-
   -- segment i is not present
   pub hanging_skip : {i : ℕ} {t₀ t : List ℕ} → i < length a → flag present i ≡ false → Hanging a b weights present posts dist i t₀ t → Hanging a b weights present posts dist (i + 1) t₀ t
   hanging_skip {i} {t₀} {t} h o H =

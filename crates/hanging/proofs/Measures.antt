@@ -1,20 +1,22 @@
--- Laws of the measures of a tree list: the loops of `whole_of`, `path_of` and `largest_of` compute `whole`, `the_path_in` and `largest`.
--- Rests on `Lists`.
+-- Laws of the measures of a tree list: the loops of `whole_of` and `path_of` compute `whole` and `the_path_in`, and the
+-- library's largest of a list is `largest`. Rests on `Lists`.
 use mathlib.Core.Path.{◌≡◌, refl, sym, ap, ◌∙◌}
 use mathlib.Core.Bool.{Bool, true, false, not, cond}
-use mathlib.Core.List.{List}
-use Prim.Native.Nat.{ℕ, zero, suc, ◌+◌, ◌*◌, ◌-◌, ◌≤◌, ◌<◌}
+use mathlib.Core.List.{List, [], ◌∷◌}
+use Prim.Native.Nat.{ℕ, zero, suc, ◌+◌, ◌*◌, ◌≤◌, ◌<◌, max}
 use native.Mathlib.Omega.{arith}
 use native.Mathlib.Numerals.{add-one}
 use native.Mathlib.Decide.{dec_lt}
 use lib.Dec.{eqb}
 use lib.ListN.{length, get_or, get_or-eq_default}
 use borrow.Author.Tests.{eqb-true, eq-eqb, ne_eqb}
-use Rattle.net.specs.Words.{counted, sum, largest, no_segment}
+use Rattle.std.specs.List.{fold, reduce}
+use Rattle.std.specs.Option.{unwrap_or}
+use Rattle.net.specs.Words.{each, counted, sum, largest, no_segment}
 use Rattle.net.specs.Net.{longest, segments_of, nth_segment, length_at}
 use Rattle.net.specs.Trees.{entry, hangs, parent, path_up, the_path_in, whole}
 use Rattle.net.specs.declared.Segment.{Segment}
-use Rattle.hanging.specs.Lists.{Short}
+use Rattle.hanging.specs.Lists.{note, Short}
 use Rattle.net.proofs.Segments.{segments_are}
 
 -- no length is above 1,048,575, behind the end either
@@ -36,9 +38,6 @@ sum_same (suc n) f h e = rw (e n, sum_same n f h e)
 pub record Adding (l t : List ℕ) (v total : ℕ) : Type 0 where
   pub is : total ≡ sum v (λ x. get_or l (entry t x) 0)
   pub most : total ≤ v * longest
-
-pub adding_none : {l t : List ℕ} → Adding l t 0 0
-adding_none = record { is = refl; most = omega arith }
 
 pub adding_more : {l t : List ℕ} {v total : ℕ} → Short l → Adding l t v total → Adding l t (v + 1) (total + get_or l (entry t v) 0)
 adding_more {l} {t} {v} {total} s r =
@@ -85,9 +84,6 @@ path_top segs n t zero v e = refl
 path_top segs n t (suc k) v e = rw (eq-eqb (entry t v) no_segment e)
 
 module _ {a b l : List ℕ} {n : ℕ} {t : List ℕ} {post : ℕ} where
-  pub climbing_none : Climbing a b l n t post n post 0
-  climbing_none = record { is = omega arith; most = omega arith }
-
   -- an entry of no segment
   pub climbing_top : {k v total : ℕ} → Climbing a b l n t post k v total → entry t v ≡ no_segment → total ≡ the_path_in (segments_of a b l) n t post
   unfolding the_path_in
@@ -100,32 +96,32 @@ module _ {a b l : List ℕ} {n : ℕ} {t : List ℕ} {post : ℕ} where
 
   -- one entry up, in what the code reads
   pub climbing_step : {k v total e x p q u : ℕ} → length b ≡ length a → length l ≡ length a → Short l
-      → Climbing a b l n t post k v total → 0 < k → e ≡ entry t v → (e ≡ no_segment → ⊥) → x ≡ get_or l e 0 → p ≡ get_or a e 0 → q ≡ get_or b e 0 → u ≡ cond (eqb p v) q p
-      → Climbing a b l n t post (k - 1) u (total + x)
-  climbing_step {k} {v} {total} {e} {x} {p} {q} {u} h g s c pos ee ne ex ep eq eu =
+      → Climbing a b l n t post (suc k) v total → e ≡ entry t v → (e ≡ no_segment → ⊥) → x ≡ get_or l e 0 → p ≡ get_or a e 0 → q ≡ get_or b e 0 → u ≡ cond (eqb p v) q p
+      → Climbing a b l n t post k u (total + x)
+  climbing_step {k} {v} {total} {e} {x} {p} {q} {u} h g s c ee ne ex ep eq eu =
       let r = read_up a b l h g t v ee ex ep eq eu in
-      let ik : k ≡ suc (k - 1) = omega arith in
       let m : x ≤ longest = omega (arith, ex, length_most l s e) in
-      let step : path_up (segments_of a b l) n t k v ≡ length_at (segments_of a b l) (entry t v) + path_up (segments_of a b l) n t (k - 1) (parent (segments_of a b l) t v) =
-      ap (λ (j : ℕ). path_up (segments_of a b l) n t j v) ik ∙ path_more (segments_of a b l) n t (k - 1) v (λ y. ne (ee ∙ y)) in
+      let step = path_more (segments_of a b l) n t k v (λ y. ne (ee ∙ y)) in
       record {
         is = c.is ∙ rw (r.1, r.0) (omega (arith, step));
         most = omega (arith, c.most);
       }
 
--- LARGEST. most is the largest of the first i
-pub record Largest (f : ℕ → ℕ) (i most : ℕ) : Type 0 where
-  pub is : most ≡ largest i f
+-- LARGEST. a thing done for each number is done for 0, and then for each number above it
+each_from : {S : Type 0} (n : ℕ) (f : ℕ → S → S) (s : S) → each (suc n) f s ≡ each n (λ i. f (suc i)) (f 0 s)
+each_from zero f s = refl
+each_from (suc n) f s = ap (λ r. f (suc n) r) (each_from n f s)
 
-module _ {f : ℕ → ℕ} where
-  pub largest_none : Largest f 0 0
-  largest_none = record { is = refl }
+largest_above : (l : List ℕ) (m : ℕ) → fold max m l ≡ each (length l) (λ i x. max x (note l i)) m
+largest_above [] m = refl
+largest_above (y ∷ l) m = largest_above l (max m y) ∙ sym (each_from (length l) (λ i x. max x (note (y ∷ l) i)) m)
 
-  pub largest_more : {i most : ℕ} → Largest f i most → most < f i → Largest f (i + 1) (f i)
-  largest_more r h = record { is = rw add-one (omega (arith, r.is)) }
-
-  pub largest_kept : {i most : ℕ} → Largest f i most → f i ≤ most → Largest f (i + 1) most
-  largest_kept r h = record { is = rw add-one (omega (arith, r.is)) }
+-- the largest of a list as the library has it
+pub largest_is : (l : List ℕ) → unwrap_or (reduce max l) 0 ≡ largest (length l) (note l)
+largest_is [] = refl
+largest_is (y ∷ l) =
+    let e : max 0 y ≡ y = omega arith in
+    largest_above l y ∙ ap (λ (m : ℕ). each (length l) (λ i x. max x (note l i)) m) (sym e) ∙ sym (each_from (length l) (λ i x. max x (note (y ∷ l) i)) 0)
 
 pub largest_same : (n : ℕ) (f h : ℕ → ℕ) → ((i : ℕ) → i < n → f i ≡ h i) → largest n f ≡ largest n h
 largest_same zero f h e = refl

@@ -2,14 +2,15 @@
 -- the loops of `find_path` and `note_path` end and compute `the_path_in`. Rests on `Measures`.
 use mathlib.Core.Path.{◌≡◌, refl, sym, ap, ◌∙◌}
 use mathlib.Core.Bool.{Bool, cond}
-use mathlib.Core.List.{List, ◌++◌}
+use mathlib.Core.List.{List, ◌++◌, map}
 use mathlib.Core.Logic.{◌⊎◌, inl, inr, ⊎_elim}
 use Prim.Native.Nat.{ℕ, zero, suc, ◌+◌, ◌*◌, ◌-◌, ◌≤◌, ◌<◌}
 use native.Mathlib.Omega.{arith}
 use native.Mathlib.Nat.{mul-le-mul_right}
 use lib.Dec.{eqb}
-use lib.ListN.{length, get_or, set, take, drop, length-set}
+use lib.ListN.{length, get_or, set, take, drop, length-set, get_or-append}
 use lib.Seq.{length-take-le, take_at}
+use Rattle.std.proofs.lemmas.List.{length-map, get_or-map}
 use Rattle.net.specs.Words.{only, tab, largest, no_segment}
 use Rattle.net.specs.Net.{longest, segments_of, length_at, most_posts}
 use Rattle.net.specs.Trees.{entry, hangs, parent, path_up, the_path_in, radius, IsTree, Climb, arrived, up}
@@ -21,8 +22,8 @@ use Rattle.net.proofs.Least.{Inside, leads_from}
 use Rattle.net.proofs.Routes.{leads_back}
 use borrow.Author.Tests.{eq-eqb, ne_eqb}
 use Rattle.hanging.specs.Lists.{note}
-use Rattle.hanging.specs.Paths.{unknown, the_first_path, Up, top, on, Rooted, Known, Learnt, Listed}
-use Rattle.hanging.proofs.Lists.{same?, last?, stored, taken_at, front_is, front_at}
+use Rattle.hanging.specs.Paths.{unknown, the_first_path, Up, top, on, Rooted, Known, Listed}
+use Rattle.hanging.proofs.Lists.{behind, same?, stored, taken_at, front_is, front_at}
 use Rattle.hanging.proofs.Measures.{path_more, path_top, short_segments, read_up, largest_same}
 
 -- A TREE has no ring
@@ -124,26 +125,26 @@ module _ {n : ℕ} {a b l tree : List ℕ} (z : Listed n a b l tree) where
     pub known_path : (note p v ≡ unknown → ⊥) → note p v ≡ the_path_in segs n t v
     known_path ne = ⊎_elim (λ e. e) (λ e. absurd (ne e.0)) (k.each v h)
 
-    module _ (f : note p v ≡ unknown) {e : ℕ} (ee : e ≡ entry t v) where
+    module _ (f : note p v ≡ unknown) {e : ℕ} (ee : e ≡ note tree v) where
+      is_entry : e ≡ entry t v
+      is_entry = ee ∙ taken_at n tree v no_segment h z.entries
+
       step : Step segs n t v (length_at segs (entry t v)) (parent segs t v)
       step = above segs n t few_segments z.rooted v h (⊎_elim (λ y. absurd (omega (arith, y, path_short v))) (λ y. y.1) (k.each v h))
 
       -- a post whose path isn't known hangs by a segment
       pub segment_in : e < length a
-      segment_in = omega (arith, ee, step.segment, length_segments a b l z.b_many z.lengths_many)
+      segment_in = omega (arith, is_entry, step.segment, length_segments a b l z.b_many z.lengths_many)
 
       -- one entry up, in what the code reads: the entry e, its segment's length x, its ends i and j, and the end u across from v
       pub step_up : {x i j u : ℕ} → x ≡ get_or l e 0 → i ≡ get_or a e 0 → j ≡ get_or b e 0 → u ≡ cond (eqb i v) j i → Step segs n t v x u
-      step_up ex ei ej eu = let r = read_up a b l z.b_many z.lengths_many t v ee ex ei ej eu in rw (r.0, r.1) step
+      step_up ex ei ej eu = let r = read_up a b l z.b_many z.lengths_many t v is_entry ex ei ej eu in rw (r.0, r.1) step
 
 module _ (segs : List Segment) (n : ℕ) (t : List ℕ) where
   -- FINDING. total leads from `post` up to v
   pub record Finding (post v total : ℕ) : Type 0 where
     pub here : v < n
     pub is : the_path_in segs n t post ≡ total + the_path_in segs n t v
-
-  pub finding_none : {post : ℕ} → post < n → Finding post post 0
-  finding_none h = record { here = h; is = omega arith }
 
   pub finding_more : {post v total x u : ℕ} → Finding post v total → Step segs n t v x u → Finding post u (total + x)
   finding_more f s = record { here = s.post; is = omega (arith, f.is, s.path) }
@@ -157,9 +158,6 @@ module _ (segs : List Segment) (n : ℕ) (t : List ℕ) where
     pub begun : (v ≡ post) ⊎ (note p post ≡ the_path_in segs n t post)
     pub still : (x : ℕ) → note p₀ x ≡ the_path_in segs n t x → note p x ≡ the_path_in segs n t x
     pub rest : (x : ℕ) → n ≤ x → note p x ≡ note p₀ x
-
-  pub noting_none : {post path : ℕ} {p : List ℕ} → post < n → path ≡ the_path_in segs n t post → Known segs n t p → Noting post p p post path
-  noting_none h e k = record { here = h; is = e; same = refl; known = k; begun = inl refl; still = λ x f. f; rest = λ x f. refl }
 
   pub noting_more : {post v left x u : ℕ} {p₀ p : List ℕ} → n ≤ length p₀ → Noting post p₀ p v left → Step segs n t v x u → Noting post p₀ (set p v left) u (left - x)
   noting_more {post} {v} {left} {p₀ = p₀} {p = p} h w s =
@@ -179,9 +177,6 @@ module _ (segs : List Segment) (n : ℕ) (t : List ℕ) where
       now : (y : ℕ) → y ≡ v → note (set p v left) y ≡ left → note (set p v left) y ≡ the_path_in segs n t y
       now y e f = f ∙ w.is ∙ ap (λ (o : ℕ). the_path_in segs n t o) (sym e)
 
-  pub noting_all : {post v left : ℕ} {p₀ p : List ℕ} → Noting post p₀ p v left → note p v ≡ the_path_in segs n t v → Learnt segs n t post p₀ p
-  noting_all w f = record { known = w.known; this = ⊎_elim (λ e. rw e at f) (λ e. e) w.begun; still = w.still; rest = w.rest }
-
   -- ALL OF THEM. the paths of the first v posts are known
   pub record Learning (p₀ p : List ℕ) (v : ℕ) : Type 0 where
     pub up_to : v ≤ n
@@ -192,16 +187,6 @@ module _ (segs : List Segment) (n : ℕ) (t : List ℕ) where
 
   pub learning_none : {p : List ℕ} → Known segs n t p → Learning p p 0
   learning_none k = record { up_to = omega arith; same = refl; known = k; done = λ x h. absurd (omega arith); rest = λ x h. refl }
-
-  pub learning_more : {p₀ p q : List ℕ} {v : ℕ} → Learning p₀ p v → v < n → length q ≡ length p → Learnt segs n t v p q → Learning p₀ q (v + 1)
-  learning_more {v = v} w h e f =
-      record {
-        up_to = omega arith;
-        same = e ∙ w.same;
-        known = f.known;
-        done = λ x g. ⊎_elim (λ i. rw i f.this) (λ i. f.still x (w.done x i)) (last? x v g);
-        rest = λ x g. f.rest x g ∙ w.rest x g;
-      }
 
   -- e: the list before any path was written
   pub learning_all : (e : List ℕ) {p₀ p : List ℕ} → n ≤ length e → length p₀ ≡ length e → ((x : ℕ) → n ≤ x → note p₀ x ≡ note e x) → Learning p₀ p n → p ≡ tab n (the_path_in segs n t) ++ drop n e
@@ -218,30 +203,26 @@ module _ (segs : List Segment) (n : ℕ) (t : List ℕ) where
       g ∙ rw (take_at p (drop n old) n e, e)
       (largest_same n (note p) (the_path_in segs n t) (λ v i. front_at n (tab n (the_path_in segs n t)) (drop n (take n old)) p 0 f f-long v i ∙ tab_at (the_path_in segs n t) n v 0 i))
 
--- BEGINNING. the first v places say which posts hang by none
-pub record Beginning (tree p₀ p : List ℕ) (v : ℕ) : Type 0 where
-  pub same : length p ≡ length p₀
-  pub done : (x : ℕ) → x < v → note p x ≡ the_first_path (note tree x)
-  pub rest : (x : ℕ) → v ≤ x → note p x ≡ note p₀ x
+-- BEGINNING. f, at the front of a list that was p, says which posts hang by none
+module _ (n : ℕ) (tree : List ℕ) (few : n ≤ length tree) (p : List ℕ) {f : List ℕ} (is : f ≡ map the_first_path (take n tree)) where
+  places : length f ≡ n
+  places = ap length is ∙ simp length-map (length-take-le n tree few)
 
-pub beginning_none : {tree : List ℕ} (p : List ℕ) → Beginning tree p p 0
-beginning_none p = record { same = refl; done = λ x h. absurd (omega arith); rest = λ x h. refl }
+  first_of : (v : ℕ) → v < n → note (f ++ drop n p) v ≡ the_first_path (entry (take n tree) v)
+  first_of v h =
+      get_or-append f (drop n p) 0 v (omega (arith, places)) ∙ ap (λ (l : List ℕ). get_or l v 0) is
+      ∙ get_or-map the_first_path (take n tree) v no_segment 0 (omega (arith, length-take-le n tree few))
 
-pub beginning_more : {tree p₀ p : List ℕ} {v y : ℕ} → Beginning tree p₀ p v → v < length p₀ → y ≡ the_first_path (note tree v) → Beginning tree p₀ (set p v y) (v + 1)
-beginning_more {tree} {p₀} {p} {v} {y} w h e =
-    let i : v < length p = omega (arith, w.same) in
-    record {
-      same = simp length-set w.same;
-      done = λ x g. ⊎_elim (λ f. f.1 ∙ e ∙ ap (λ (o : ℕ). the_first_path (note tree o)) (sym f.0)) (λ f. f.1 ∙ ⊎_elim (λ q. absurd (f.0 q)) (λ q. w.done x q) (last? x v g)) (stored p v x y 0 i);
-      rest = λ x g. ⊎_elim (λ f. absurd (omega (arith, f.0))) (λ f. f.1 ∙ w.rest x (omega arith)) (stored p v x y 0 i);
-    }
+  pub begun_rest : (v : ℕ) → n ≤ v → note (f ++ drop n p) v ≡ note p v
+  begun_rest v h = behind n f p places v h
 
-pub beginning_known : {tree p₀ p : List ℕ} {n : ℕ} → n ≤ length tree → Beginning tree p₀ p n → (segs : List Segment) → Known segs n (take n tree) p
-unfolding the_path_in
-beginning_known {tree} {p₀} {p} {n} h w segs = record { each = known_first }
-  where
-    known_first : (v : ℕ) → v < n → (note p v ≡ the_path_in segs n (take n tree) v) ⊎ ((note p v ≡ unknown) × (entry (take n tree) v ≡ no_segment → ⊥))
-    known_first v g =
-        let e = taken_at n tree v no_segment g h in
-        ⊎_elim (λ y. inl (w.done v g ∙ rw (eq-eqb (note tree v) no_segment y) (sym (path_top segs n (take n tree) n v (sym e ∙ y)))))
-        (λ y. inr (w.done v g ∙ rw (ne_eqb (note tree v) no_segment y), λ x. y (e ∙ x))) (same? (note tree v) no_segment)
+  pub begun_known : (net : List Segment) → Known net n (take n tree) (f ++ drop n p)
+  unfolding the_path_in
+  begun_known net = record { each = known_first }
+    where
+      known_first : (v : ℕ) → v < n → (note (f ++ drop n p) v ≡ the_path_in net n (take n tree) v) ⊎ ((note (f ++ drop n p) v ≡ unknown) × (entry (take n tree) v ≡ no_segment → ⊥))
+      known_first v h =
+          ⊎_elim
+          (λ y. inl (first_of v h ∙ rw (eq-eqb (entry (take n tree) v) no_segment y) (sym (path_top net n (take n tree) n v y))))
+          (λ y. inr (first_of v h ∙ rw (ne_eqb (entry (take n tree) v) no_segment y), y))
+          (same? (entry (take n tree) v) no_segment)

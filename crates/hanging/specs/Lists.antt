@@ -1,5 +1,5 @@
 -- How the code's lists are read: flags as a test on segment numbers, numbers as a function, three lists side by side as
--- segments; and what is asked of them. Also what `fill` does to a list. Rests on `net`'s words; `shortest` and the
+-- segments; and what is asked of them. Also what filling does to a list. Rests on `net`'s words; `shortest` and the
 -- crates above it cite it too.
 use Rattle.std.specs.Prelude.{◌≡◌, Bool, true, false, List, ℕ, ◌<◌, ◌≤◌, length, get_or}
 use Rattle.net.specs.Net.{longest, most_segments}

@@ -1,10 +1,12 @@
 -- What is asked of a tree list whose paths are worked out each once, and what a list of paths holds meanwhile. The
 -- contracts of `paths_of` and of the functions below it cite it. Rests on `Lists` and on `net`'s words.
 use Rattle.std.specs.Prelude.{◌≡◌, cond, List, ◌⊎◌, ℕ, suc, ◌<◌, ◌≤◌, eqb, length, take}
+use Rattle.std.specs.Borrow.{Bor}
 use Rattle.net.specs.Words.{no_segment}
 use Rattle.net.specs.Net.{most_posts, most_segments, segments_of}
 use Rattle.net.specs.Trees.{entry, parent, the_path_in}
 use Rattle.net.specs.declared.Segment.{Segment}
+use Rattle.net.specs.declared.SegmentLists.{SegmentLists}
 use Rattle.hanging.specs.Lists.{note, Short}
 
 -- no path is as long: what stands for a post whose path isn't known yet
@@ -46,3 +48,7 @@ pub record Listed (n : ℕ) (a b lengths tree : List ℕ) : Type 0 where
   pub lengths_many : length lengths ≡ length a
   pub short : Short lengths
   pub rooted : Rooted (segments_of a b lengths) n (take n tree)
+
+-- the same of lent lists
+abbrev pub ListedIn : ℕ → SegmentLists → Bor (List ℕ) → Type 0
+ListedIn n s tree = Listed n s.a.now s.b.now s.lengths.now tree.now

@@ -1,7 +1,7 @@
 -- Passing the segments in order: those passed are exactly those before the next (`passed_earlier`), so the next belongs exactly if it is there and
 -- its ends share no part (`belongs_absent`, `belongs_within`, `belongs_joins`). Rests on Ordering, Parts and `net`'s Belongs.
 use mathlib.Core.Path.{◌≡◌, refl, sym, ap, ◌∙◌}
-use mathlib.Core.Bool.{Bool, true, false, ◌&&◌, ◌||◌}
+use mathlib.Core.Bool.{Bool, true, false, ◌&&◌, ◌||◌, or-false, or_assoc}
 use mathlib.Core.List.{List, [], ◌∷◌, ◌++◌}
 use mathlib.Core.Logic.{◌⊎◌, inl, inr}
 use Prim.Native.Nat.{ℕ, zero, suc, ◌+◌, ◌<◌, ◌≤◌}
@@ -36,19 +36,10 @@ says_has [] j h = elim h [ ]
 says_has (x ∷ l) j (inl e) = or_left (eqb j x) (has l j) (eq-eqb j x e)
 says_has (x ∷ l) j (inr h) = or_right (eqb j x) (has l j) (says_has l j h)
 
--- tests by cases
-or_assoc : (a b c : Bool) → a || (b || c) ≡ (a || b) || c
-or_assoc true b c = refl
-or_assoc false b c = refl
-
-or_none : (a : Bool) → a || false ≡ a
-or_none true = refl
-or_none false = refl
-
 -- one more at the end
 has_snoc : (l : List ℕ) (e j : ℕ) → has (l ++ (e ∷ [])) j ≡ (has l j || eqb j e)
-has_snoc [] e j = or_none (eqb j e)
-has_snoc (x ∷ l) e j = ap (λ t. eqb j x || t) (has_snoc l e j) ∙ or_assoc (eqb j x) (has l j) (eqb j e)
+has_snoc [] e j = or-false (eqb j e)
+has_snoc (x ∷ l) e j = ap (λ t. eqb j x || t) (has_snoc l e j) ∙ sym (or_assoc (eqb j x) (has l j) (eqb j e))
 
 -- one more place of a list
 pub has_more : (l : List ℕ) (k j : ℕ) → k < length l → has (take (k + 1) l) j ≡ (has (take k l) j || eqb j (get_or l k 0))
@@ -87,7 +78,7 @@ same_test false false f g = refl
 add_absent : (c h t : Bool) → (t ≡ true → c ≡ false) → c && h ≡ c && (h || t)
 add_absent false h t f = refl
 add_absent true h true f = absurd (clash refl (f refl))
-add_absent true h false f = sym (or_none h)
+add_absent true h false f = sym (or-false h)
 
 add_there : (c h t : Bool) → (t ≡ true → c ≡ true) → (c && h) || t ≡ c && (h || t)
 add_there true h t f = refl

@@ -2,19 +2,14 @@
 -- and which posts then share a part is determined (`joined_unique`). Rests on nothing of ours but the definitions.
 use mathlib.Core.Path.{◌≡◌, refl, sym, ap, ◌∙◌}
 use mathlib.Core.Bool.{Bool, true, false, ◌&&◌, ◌||◌, cond}
-use mathlib.Core.List.{List, [], ◌∷◌, map}
-use Prim.Native.Nat.{ℕ, zero, suc, ◌<◌}
+use mathlib.Core.List.{List}
+use Prim.Native.Nat.{ℕ, ◌<◌}
 use native.Mathlib.Omega.{arith}
 use lib.ListN.{length, get_or, length-map}
 use lib.Dec.{eqb}
 use borrow.Author.Tests.{eq-eqb, ne_eqb, eqb-true, eqb-false}
+use Rattle.std.proofs.lemmas.List.{get_or-map}
 use Rattle.lightest.specs.Parts.{share, renamed, JoinedParts, renamed_to}
-
--- a list changed entry by entry
-pub map_at : (f : ℕ → ℕ) (l : List ℕ) (i : ℕ) → i < length l → get_or (map f l) i 0 ≡ f (get_or l i 0)
-map_at f [] i h = absurd (omega arith)
-map_at f (x ∷ l) zero h = refl
-map_at f (x ∷ l) (suc i) h = map_at f l i (omega arith)
 
 -- what renaming does to one label
 pub renamed_same : (from to x : ℕ) → x ≡ from → renamed from to x ≡ to
@@ -81,7 +76,7 @@ renamed_joins old u v new hu hv e =
     size = ap length e ∙ length-map old (renamed (get_or old v 0) (get_or old u 0))
 
     at : (x : ℕ) → x < length old → get_or new x 0 ≡ renamed (get_or old v 0) (get_or old u 0) (get_or old x 0)
-    at x h = rw e (map_at (renamed (get_or old v 0) (get_or old u 0)) old x h)
+    at x h = rw e (get_or-map (renamed (get_or old v 0) (get_or old u 0)) old x 0 0 h)
 
 -- it is one thing to join u's part to v's and v's to u's
 pub joined_swap : {old : List ℕ} {u v : ℕ} {new : List ℕ} → JoinedParts old v u new → JoinedParts old u v new

@@ -54,10 +54,3 @@ pub record Markable (a b : List ℕ) (present : List Bool) (numbers labels next 
   pub all_one : (x : ℕ) → x < length labels → get_or counts x 0 ≡ 1
   pub one_mark : length marks ≡ length a
   pub are_segments : (k : ℕ) → k < length numbers → get_or numbers k 0 < length a
-
--- lists lent to work in, and the marks: an entry for each of m segments
-pub record Lent (m : ℕ) (numbers keys twin : List ℕ) (marks : List Bool) : Type 0 where
-  pub one_number : length numbers ≡ m
-  pub one_key : length keys ≡ m
-  pub one_twin : length twin ≡ m
-  pub one_mark : length marks ≡ m

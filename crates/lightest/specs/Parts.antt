@@ -4,6 +4,7 @@
 -- (`Rings`), and the count of them is kept by their label (`Counted`). Rests on `net`'s words.
 use Rattle.std.specs.Prelude.{◌≡◌, Bool, true, false, ◌&&◌, ◌||◌, cond, List, [], ◌∷◌, map, ◌⊎◌, ℕ, zero, suc, ◌+◌, ◌<◌, ◌≤◌, length, get_or, set, eqb, ltb}
 use Rattle.net.specs.Words.{sum, counted, no_segment}
+use Rattle.lightest.specs.declared.PartLists.{PartLists}
 
 -- x and y share a part
 abbrev pub share : List ℕ → ℕ → ℕ → Bool
@@ -122,3 +123,10 @@ pub record Joinable (labels next counts : List ℕ) (u v : ℕ) : Type 0 where
 pub record JoinedTo (old : List ℕ) (u v : ℕ) (new next counts : List ℕ) : Type 0 where
   pub named : new ≡ renamed_to old u v
   pub ringed : Ringed new next counts
+
+-- THE SAME IN THE STRUCT of the three lists
+abbrev pub RingedIn : PartLists → Type 0
+RingedIn parts = Ringed parts.labels.now parts.next.now parts.counts.now
+
+abbrev pub JoinableIn : PartLists → ℕ → ℕ → Type 0
+JoinableIn parts u v = Joinable parts.labels.now parts.next.now parts.counts.now u v

@@ -10,8 +10,9 @@ use lib.ListN.{length, length-append, get_or, get_or-append}
 use borrow.Author.Tests.{lt-leb, le-leb, ltb-true, ltb-false}
 use Rattle.lines.specs.Text.{spelled, decimal}
 use Rattle.lines.specs.Reading.{all_digits, value_from, value}
-use Rattle.lines.specs.Putting.{Put}
-use Rattle.lines.proofs.Placing.{put_then}
+use Rattle.lines.specs.Putting.{Wrote}
+use Rattle.lines.specs.declared.Text.{Text}
+use Rattle.lines.proofs.Placing.{wrote_then}
 
 -- THE LAST DIGIT and what stands before it
 spelled_low : (k n : ℕ) → n < 10 → spelled (suc k) n ≡ (48 + n) ∷ []
@@ -110,11 +111,11 @@ decimal_front =
     (λ n h e pos. rw (decimal_high n h, get_or-append (decimal (n / 10)) ((48 + n % 10) ∷ []) 0 0 (decimal_some (n / 10))) (e (omega arith)))
 
 -- NUMBERS PUT: one digit, or what stands before the last digit and that digit
-pub put_low : {l x : List ℕ} {n d at r : ℕ} → n < 10 → d ≡ 48 + n → Put (d ∷ []) at l x r → Put (decimal n) at l x r
+pub put_low : {a b : Text} {n d : ℕ} → n < 10 → d ≡ 48 + n → Wrote (d ∷ []) a b → Wrote (decimal n) a b
 put_low {n = n} h e p = rw (decimal_low n h, ← e) p
 
-pub put_high : {l x y : List ℕ} {n d at r z : ℕ} → 10 ≤ n → Put (decimal (n / 10)) at l x r → d ≡ 48 + n % 10 → Put (d ∷ []) r x y z → Put (decimal n) at l y z
-put_high {n = n} h p e q = rw (decimal_high n h, ← e) (put_then p q)
+pub put_high : {a b c : Text} {n d : ℕ} → 10 ≤ n → Wrote (decimal (n / 10)) a b → d ≡ 48 + n % 10 → Wrote (d ∷ []) b c → Wrote (decimal n) a c
+put_high {n = n} h p e q = rw (decimal_high n h, ← e) (wrote_then p q)
 
 pub high_length : (n : ℕ) → 10 ≤ n → length (decimal n) ≡ length (decimal (n / 10)) + 1
 high_length n h = rw (decimal_high n h) (simp length-append (omega arith))

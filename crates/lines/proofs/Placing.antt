@@ -1,18 +1,23 @@
 -- Text put into lent room: one byte, nothing, and one text behind another (`put_then`); what is put is determined (`put_unique`).
 use mathlib.Core.Path.{◌≡◌, refl, sym, ◌∙◌}
 use mathlib.Core.List.{List, [], ◌∷◌, ◌++◌, append-nil, append_assoc}
-use Prim.Native.Nat.{ℕ, ◌+◌, ◌<◌, ◌≤◌}
+use Prim.Native.Nat.{ℕ, ◌+◌, ◌≤◌}
 use native.Mathlib.Numerals.{add-one}
 use native.Mathlib.Nat.{add_assoc, add-zero}
 use native.Mathlib.Omega.{arith}
-use lib.ListN.{length, get_or, take, drop, set, length-set, length-append, length-take, take-append-drop}
-use lib.Seq.{set_split, append_snoc, take_at, drop_at, drop-drop, take-suc, take_all}
-use Rattle.lines.specs.Putting.{Put}
+use lib.ListN.{length, take, drop, set, length-set, length-append, length-take, take-append-drop}
+use lib.Seq.{set_split, append_snoc, take_at, drop_at, drop-drop}
+use Rattle.lines.specs.Putting.{Put, Wrote}
+use Rattle.lines.specs.declared.Text.{Text}
 
 -- nothing put
 pub put_none : (at : ℕ) (l : List ℕ) → at ≤ length l → Put [] at l l at
 put_none at l h =
     record { behind = omega arith; holds = rw (append-nil, add-zero) (sym (take-append-drop at l)); fits = omega arith; same = refl }
+
+-- the same for a text of the code
+pub wrote_none : (a : Text) → a.at ≤ length a.room.now → Wrote [] a a
+wrote_none a h = record { put = put_none a.at a.room.now h; room = refl }
 
 -- one byte stored
 pub put_one : (b at : ℕ) (l : List ℕ) → at + 1 ≤ length l → Put (b ∷ []) at l (set l at b) (at + 1)
@@ -43,21 +48,8 @@ put_then {s} {t} {l} {x} {y} {at} {r} {z} p q =
       same = q.same ∙ p.same;
     }
 
--- a word put as far as its first i bytes: the invariant of the loop over a word
-pub record SoFar (w : List ℕ) (i at : ℕ) (l x : List ℕ) (r : ℕ) : Type 0 where
-  pub within : i ≤ length w
-  pub place : r ≡ at + i
-  pub done : Put (take i w) at l x r
-
-pub so_far_none : (w : List ℕ) (at : ℕ) (l : List ℕ) → at ≤ length l → SoFar w 0 at l l at
-so_far_none w at l h = record { within = omega arith; place = omega arith; done = put_none at l h }
-
-pub so_far_more : {w l x y : List ℕ} {i at r z : ℕ} → SoFar w i at l x r → i < length w → Put (get_or w i 0 ∷ []) r x y z → SoFar w (i + 1) at l y z
-so_far_more {w} {i = i} p h q =
-    record { within = omega arith; place = let e = q.behind in omega (arith, p.place); done = rw (add-one, take-suc w i 0 h) (put_then p.done q) }
-
-pub so_far_all : {w l x : List ℕ} {i at r : ℕ} → SoFar w i at l x r → length w ≤ i → Put w at l x r
-so_far_all {w} {i = i} p h = rw (take_all i w h) at p.done
+pub wrote_then : {s t : List ℕ} {a b d : Text} → Wrote s a b → Wrote t b d → Wrote (s ++ t) a d
+wrote_then p q = record { put = put_then p.put q.put; room = q.room ∙ p.room }
 
 -- two outcomes for one text, one place and one room are equal
 pub put_unique : {t l x y : List ℕ} {at r z : ℕ} → Put t at l x r → Put t at l y z → (r ≡ z) × (x ≡ y)

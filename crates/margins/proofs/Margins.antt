@@ -23,8 +23,7 @@ use Rattle.net.specs.Trees.{none_yet, the_path_in, the_margin_by}
 use Rattle.net.specs.Building.{p_of, q_of, tree_of, joined_to_source, margin_refusal, the_margin_in, margin_answer, margin_of}
 use Rattle.net.specs.declared.Head.{Head}
 use Rattle.net.specs.declared.Refusal.{Refusal}
-use Rattle.net.specs.declared.Checked.{Checked}
-use Rattle.net.specs.declared.Checked.TheVariants.{Refused as Unsound}
+use Rattle.net.specs.Refusals.{Checked}
 use Rattle.net.specs.declared.Tree.{Tree}
 use Rattle.net.specs.declared.Tree.TheVariants.{Lightest, Shortest, Between}
 use Rattle.net.proofs.Tables.{FirstOf, here, below, end, first_only, first_is, some_append, none_append}
@@ -32,11 +31,10 @@ use Rattle.net.proofs.Faults.{sound_first}
 use Rattle.net.proofs.Refusals.{margin_only}
 use Rattle.net.proofs.Checks.{check_faulty}
 use Rattle.net.specs.Ready.{net_at, Ready}
-use Rattle.net.proofs.Ready.{cut_same}
 use Rattle.trees.specs.Worked.{Worked, ThreeTrees}
 use Rattle.margins.specs.Answers.{margin_answer_of, named}
-use Rattle.margins.specs.declared.MarginAnswer.{MarginAnswer}
-use Rattle.margins.specs.declared.MarginAnswer.TheVariants.{Margin, Refused as Unmeasured}
+use Rattle.margins.specs.Answers.{MarginAnswer}
+use Rattle.std.specs.Prelude.{Ok, Err}
 use Rattle.net.specs.declared.Segment.{Segment}
 use Rattle.net.proofs.Own.{all_own, post_ratio_sound}
 use Rattle.trees.specs.Ratios.{the_number_for}
@@ -77,11 +75,11 @@ margin_at p q dist path ez ex ey e₁ e₂ e₃ e₄ = rw (ez, ex, ey, e₁, e�
 
 -- WAYS OUT
 module _ (n : Net) (m k : ℕ) (t : Tree) (post : ℕ) where
-  pub says_refused : {r : Refusal} → some r ≡ margin_refusal every n m k post → Unmeasured r ≡ margin_answer_of (margin_of every n m k t post)
+  pub says_refused : {r : Refusal} → some r ≡ margin_refusal every n m k post → Err r ≡ margin_answer_of (margin_of every n m k t post)
   unfolding margin_of margin_answer
   says_refused e = rw (← e)
 
-  pub says_worked : {z : ℤ} → none ≡ margin_refusal every n m k post → z ≡ the_margin_in every n t post → Margin z ≡ margin_answer_of (margin_of every n m k t post)
+  pub says_worked : {z : ℤ} → none ≡ margin_refusal every n m k post → z ≡ the_margin_in every n t post → Ok z ≡ margin_answer_of (margin_of every n m k t post)
   unfolding margin_of margin_answer
   says_worked e f = rw (← e, f)
 
@@ -97,14 +95,14 @@ post_in posts post h = let e : leb posts post ≡ false = lt-leb posts post h in
 -- two lists of ratios side by side, and three of segments
 module _ (head : Head) (p q a b lengths : List ℕ) (t : Tree) (post : ℕ) where
   -- 1 to 7
-  pub says_faulty : {v : Checked} {r : Refusal} → v ≡ check_of head (ratios_of p q) (segments_of a b lengths) → v ≡ Unsound r
-      → Unmeasured r ≡ margin_answer_of (margin_of every (net_at head p q a b lengths) (length (segments_of a b lengths)) (length (ratios_of p q)) t post)
+  pub says_faulty : {v : Checked} {r : Refusal} → v ≡ check_of head (ratios_of p q) (segments_of a b lengths) → v ≡ Err r
+      → Err r ≡ margin_answer_of (margin_of every (net_at head p q a b lengths) (length (segments_of a b lengths)) (length (ratios_of p q)) t post)
   says_faulty e f =
       says_refused _ _ _ t post (margin_only every _ (net_at head p q a b lengths) (length (ratios_of p q)) post (R.MarginRule.one_to_seven ((check_faulty head (ratios_of p q) (segments_of a b lengths)).0 (sym e ∙ f))))
 
   module _ (r : Ready head p q a b lengths) where
     -- 8
-    pub says_few : length (ratios_of p q) < head.posts → {x : MarginAnswer} → x ≡ Unmeasured (refusal 8 0)
+    pub says_few : length (ratios_of p q) < head.posts → {x : MarginAnswer} → x ≡ Err (refusal 8 0)
         → x ≡ margin_answer_of (margin_of every (net_at head p q a b lengths) (length (segments_of a b lengths)) (length (ratios_of p q)) t post)
     says_few h f = f ∙ says_refused _ _ _ t post (margin_only every _ (net_at head p q a b lengths) (length (ratios_of p q)) post (R.MarginRule.eight r.sound h))
 
@@ -114,7 +112,7 @@ module _ (head : Head) (p q a b lengths : List ℕ) (t : Tree) (post : ℕ) wher
       few_not = room_none head.posts (length (ratios_of p q)) enough
 
       -- 9
-      pub says_apart : {v : ℕ} → first (joined_lines head.posts (joined_to_source every (net_at head p q a b lengths))) ≡ some (refusal 9 v) → {x : MarginAnswer} → x ≡ Unmeasured (refusal 9 v)
+      pub says_apart : {v : ℕ} → first (joined_lines head.posts (joined_to_source every (net_at head p q a b lengths))) ≡ some (refusal 9 v) → {x : MarginAnswer} → x ≡ Err (refusal 9 v)
           → x ≡ margin_answer_of (margin_of every (net_at head p q a b lengths) (length (segments_of a b lengths)) (length (ratios_of p q)) t post)
       unfolding margin_refusal
       says_apart e f =
@@ -127,12 +125,12 @@ module _ (head : Head) (p q a b lengths : List ℕ) (t : Tree) (post : ℕ) wher
         unfolding margin_refusal
         post_left f = first_only (none_append (sound_first every _ (net_at head p q a b lengths) r.sound) (none_append few_not (none_append (first_is e) f)))
 
-        pub says_beyond : head.posts ≤ post → {x : MarginAnswer} → x ≡ Unmeasured (refusal 19 0)
+        pub says_beyond : head.posts ≤ post → {x : MarginAnswer} → x ≡ Err (refusal 19 0)
             → x ≡ margin_answer_of (margin_of every (net_at head p q a b lengths) (length (segments_of a b lengths)) (length (ratios_of p q)) t post)
         says_beyond h f = f ∙ says_refused _ _ _ t post (post_left (post_out head.posts post h))
 
         pub says_margin : post < head.posts → {v : ℕ} → v ≡ post → (y : ℤ) → mag y < 2 ^ 63 → y ≡ the_margin_in every (net_at head p q a b lengths) t v
-            → Margin (to_z w64 (of_z w64 y)) ≡ margin_answer_of (margin_of every (net_at head p q a b lengths) (length (segments_of a b lengths)) (length (ratios_of p q)) t post)
+            → Ok (to_z w64 (of_z w64 y)) ≡ margin_answer_of (margin_of every (net_at head p q a b lengths) (length (segments_of a b lengths)) (length (ratios_of p q)) t post)
         says_margin h k y fits f = says_worked _ _ _ t post (post_left (post_in head.posts post h)) (back y fits ∙ (rw k at f))
 
 -- A PATH in the tree that is named
@@ -184,9 +182,3 @@ module _ {head : Head} {p q a b lengths : List ℕ} (r : Ready head p q a b leng
         → z ≡ the_margin_by x y (get_or dist post 0) path → z ≡ the_margin_in every (net_at head p q a b lengths) t post
     unfolding the_margin_in
     margin_of_law t trees e f = f ∙ rw (e, named_is trees t, x_own, y_own, least_at r w post h)
-
--- THREE LISTS OF ANY LENGTHS stand for their common front
-pub says_cut : (head : Head) (p q a b lengths : List ℕ) (k : ℕ) (t : Tree) (post : ℕ) {m : ℕ} → m ≡ length (segments_of a b lengths) → {x : MarginAnswer}
-    → x ≡ margin_answer_of (margin_of every (net_at head p q (take m a) (take m b) (take m lengths)) (length (segments_of (take m a) (take m b) (take m lengths))) k t post)
-    → x ≡ margin_answer_of (margin_of every (net_at head p q a b lengths) (length (segments_of a b lengths)) k t post)
-says_cut head p q a b lengths k t post e z = rw (cut_same a b lengths e) at z

@@ -21,12 +21,12 @@ use Rattle.net.proofs.Refusals.{margin_accepted}
 use Rattle.net.proofs.Margin.{margin_below, margin_at_limit, at_limit_margin}
 use Rattle.net.proofs.Demand.{between_margin, shortest_margin, source_margin}
 use Rattle.margins.specs.Answers.{margin_answer_of}
-use Rattle.margins.specs.declared.MarginAnswer.{MarginAnswer}
-use Rattle.margins.specs.declared.MarginAnswer.TheVariants.{Margin}
+use Rattle.margins.specs.Answers.{MarginAnswer}
+use Rattle.std.specs.Prelude.{Ok}
 
 -- A MARGIN THAT IS GIVEN, of a net that claims m segments and for which k ratios are lent
-module _ (n : Net) (m k : ℕ) (t : Tree) (post : ℕ) {x : MarginAnswer} (is : x ≡ margin_answer_of (margin_of every n m k t post)) {z : ℤ} (given : x ≡ Margin z) where
-  held : (o : Option Refusal) → margin_answer_of (margin_answer every n o t post) ≡ Margin z → (o ≡ none) × (z ≡ the_margin_in every n t post)
+module _ (n : Net) (m k : ℕ) (t : Tree) (post : ℕ) {x : MarginAnswer} (is : x ≡ margin_answer_of (margin_of every n m k t post)) {z : ℤ} (given : x ≡ Ok z) where
+  held : (o : Option Refusal) → margin_answer_of (margin_answer every n o t post) ≡ Ok z → (o ≡ none) × (z ≡ the_margin_in every n t post)
   unfolding margin_answer
   held none e = (refl, cc)
   held (some r) e = absurd (let y : ◌≡◌ {A = ℕ} 0 1 = cc in omega arith)

@@ -5,7 +5,7 @@
 #![tactic(auto)]
 
 use filling::fill;
-use moving::{ENOUGH_BYTES, Handed, LONGEST_RECORD, hand_on};
+use moving::{ENOUGH_BYTES, LONGEST_RECORD, hand_on};
 use std::io;
 use std::io::Write;
 
@@ -15,12 +15,11 @@ fn main(rt: HostRuntime) -> io::Result<()> {
     let mut input = [0u8; ENOUGH_BYTES];
     let n = fill(&mut rt.stdin(), &mut input)?;
     let mut out = [0u8; LONGEST_RECORD];
-    let handed = hand_on(way[0], &input, n, &mut out);
-    match handed {
-        Handed::Moved(r) => match rt.stdout().write_all(&out[..r]) {
+    match hand_on(way[0], &input, n, &mut out) {
+        Ok(size) => match rt.stdout().write_all(&out[..size]) {
             Ok(()) => Ok(()),
             Err(_) => rt.stderr().write_all(b"not written\n"),
         },
-        Handed::Refused(r) => rt.stderr().write_all(&out[..r]),
+        Err(size) => rt.stderr().write_all(&out[..size]),
     }
 }

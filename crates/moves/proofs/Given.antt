@@ -2,11 +2,10 @@
 -- that is wanted (`gives_written`), which is sound (`moved_ready`); of a record (`moves_refused`, `moves_read`). Relies on Forms, Ruled and on the lists of `on_records`.
 use mathlib.Core.Path.{◌≡◌, refl, sym, ap, ◌∙◌}
 use mathlib.Core.List.{List}
-use mathlib.Core.Bool.{true, false}
 use mathlib.Core.Option.{none}
 use Prim.Native.Nat.{ℕ, ◌<◌, ◌≤◌, min}
 use native.Mathlib.Omega.{arith}
-use lib.ListN.{length, take, replicate, length-replicate, get_or-replicate}
+use lib.ListN.{length, replicate, length-replicate, get_or-replicate}
 use Rattle.net.specs.Net.{house, Net, every, most_posts, ratio_at, ratios_of, own_of, segments_of}
 use Rattle.net.specs.Ready.{net_at, Ready}
 use Rattle.net.specs.Refusals.{refusal, room_of_ratios}
@@ -20,16 +19,16 @@ use Rattle.net.proofs.Tables.{FirstOf, end, below, first_of, first_only, none_ap
 use Rattle.numbers.specs.Numbers.{refused as unread}
 use Rattle.writing.specs.Writing.{net_written, short_lines, write_refusal, the_room_after}
 use Rattle.writing.specs.Answers.{write_answer_of, Writes}
-use Rattle.writing.specs.declared.WriteAnswer.{WriteAnswer}
-use Rattle.writing.specs.declared.WriteAnswer.TheVariants.{Refused as Unwritten}
-use Rattle.on_records.specs.Asked.{record_read, front_of, Front}
+use Rattle.on_records.specs.Asked.{record_read, front_of}
 use Rattle.on_records.proofs.Given.{NetRead}
 use borrow.Author.Tests.{le-ltb}
-use Rattle.moves.specs.Moves.{the_head_in, in_form, the_same_form, the_other_at, the_own_posts, LowestOther, move_refusal, MovesNet, Moves}
+use Rattle.reading.specs.Answers.{the_own_posts}
+use Rattle.moves.specs.Moves.{the_head_in, in_form, the_other_at, NoneOther, LowestAt, move_refusal, MovesNet, Moves}
 use Rattle.moves.specs.Rules.{AllHouse}
 use Rattle.moves.proofs.Forms.{moved_kept, moved_house, moved_sound, kept_from}
-use Rattle.moves.proofs.Tests.{same_form_law, other_told, other_kept}
+use Rattle.moves.proofs.Tests.{other_told, other_kept}
 use Rattle.moves.proofs.Ruled.{no_other, lowest_other, by_thirty, by_twenty, by_last}
+use Rattle.std.specs.Prelude.{Result, Err}
 
 -- a list of places for every post, all of them x
 abbrev pub alike : ℕ → List ℕ
@@ -47,37 +46,39 @@ house_at h v k =
 house_many : (h : Head) → length (ratios_of (alike h.p) (alike h.q)) ≡ most_posts
 house_many h = omega (arith, ratios_count (alike h.p) (alike h.q), length-replicate most_posts h.p, length-replicate most_posts h.q)
 
+-- a net that nothing from 1 to 7 refuses, with a ratio for each post
+pub record Lent (h : Head) (p q a b l : List ℕ) : Type 0 where
+  pub ready : Ready h p q a b l
+  pub rated : h.posts ≤ length (ratios_of p q)
+
 -- every post that has a place for an own ratio has one in the lists
-pub own_fits : {h : Head} {m : ℕ} {p q a b l : List ℕ} → Front h m p q a b l → {k : ℕ} → k ≡ the_own_posts h h.form → (k ≤ length p) × (k ≤ length q)
-own_fits {h} {m} {p} {q} f {k} e =
-    let few = f.ready.sound.head_sound.posts_sound.few_posts in
-    let x = f.p_long in
-    let y = f.q_long in
+pub own_fits : {h : Head} {p q a b l : List ℕ} → Lent h p q a b l → {k : ℕ} → k ≡ the_own_posts h.form h.posts → (k ≤ length p) × (k ≤ length q)
+own_fits {h} {p} {q} f {k} e =
     let z = at_most h.form in
-    (omega arith, omega arith)
+    (omega (arith, f.rated, ratios_count p q), omega (arith, f.rated, ratios_count p q))
   where
-    at_most : (g : Form) → the_own_posts h g ≤ h.posts
+    at_most : (g : Form) → the_own_posts g h.posts ≤ h.posts
     at_most First = omega arith
     at_most Second = omega arith
 
--- A NET IN FIVE LISTS, which was found sound as it was read
-module _ (wanted : Form) {h : Head} {m : ℕ} {p q a b l : List ℕ} (f : Front h m p q a b l) (room : List ℕ) where
+-- A NET IN SUCH LISTS
+module _ (wanted : Form) {h : Head} {p q a b l : List ℕ} (f : Lent h p q a b l) (room : List ℕ) where
   abbrev net : Net
-  net = front_of h m p q a b l
+  net = net_at h p q a b l
 
   few : h.posts ≤ most_posts
   few = f.ready.sound.head_sound.posts_sound.few_posts
 
   -- as many posts have a place for an own ratio as are looked at
   many : min h.posts (length (ratios_of p q)) ≡ h.posts
-  many = omega (arith, few, ratios_count p q, f.p_long, f.q_long)
+  many = omega (arith, f.rated)
 
-  count_own : length (own_of h (ratios_of p q)) ≡ the_own_posts h h.form
+  count_own : length (own_of h (ratios_of p q)) ≡ the_own_posts h.form h.posts
   count_own = by_form h.form refl
     where
-      by_form : (g : Form) → h.form ≡ g → length (own_of h (ratios_of p q)) ≡ the_own_posts h h.form
-      by_form First e = ap length (own_first h (ratios_of p q) e) ∙ sym (ap (the_own_posts h) e)
-      by_form Second e = own_count h (ratios_of p q) e ∙ many ∙ sym (ap (the_own_posts h) e)
+      by_form : (g : Form) → h.form ≡ g → length (own_of h (ratios_of p q)) ≡ the_own_posts h.form h.posts
+      by_form First e = ap length (own_first h (ratios_of p q) e) ∙ sym (ap (λ f. the_own_posts f h.posts) e)
+      by_form Second e = own_count h (ratios_of p q) e ∙ many ∙ sym (ap (λ f. the_own_posts f h.posts) e)
 
   -- and they are tested alike in the lists and in the net
   tested : (v : ℕ) → v < length (own_of h (ratios_of p q)) → the_other_at h (own_of h (ratios_of p q)) v ≡ the_other_at h (ratios_of p q) v
@@ -88,31 +89,28 @@ module _ (wanted : Form) {h : Head} {m : ℕ} {p q a b l : List ℕ} (f : Front 
       by_form Second e = other_kept h (ratios_of p q) e v (omega (arith, own_count h (ratios_of p q) e))
 
   -- 30
-  pub gives_thirty : the_same_form h.form wanted ≡ true → {v : WriteAnswer} → v ≡ Unwritten (refusal 30 0) → MovesNet wanted net room v room
-  gives_thirty e x = let z = by_thirty wanted net (length room) ((same_form_law h.form wanted).passes e) in record { answers = rw z x; leaves = rw z }
+  pub gives_thirty : h.form ≡ wanted → {v : Result ℕ Refusal} → v ≡ Err (refusal 30 0) → MovesNet wanted net room v room
+  gives_thirty e x = let z = by_thirty wanted net (length room) e in record { answers = rw z x; leaves = rw z }
 
-  module _ (e : the_same_form h.form wanted ≡ false) {k r : ℕ} (c : k ≡ the_own_posts h h.form) (o : LowestOther h (ratios_of p q) k r) where
-    pub ne : h.form ≡ wanted → ⊥
-    ne = (same_form_law h.form wanted).fails e
-
-    below_house : (v : ℕ) → v < r → (v ≡ h.source → ⊥) → ratio_at (own_of h (ratios_of p q)) v ≡ house h
-    below_house v i = (other_told h (own_of h (ratios_of p q)) v).fails (tested v (omega (arith, count_own, o.up_to)) ∙ o.none_below v i)
+  module _ (ne : h.form ≡ wanted → ⊥) {k : ℕ} (c : k ≡ the_own_posts h.form h.posts) where
+    below_house : {r : ℕ} → r ≤ k → NoneOther h (ratios_of p q) r → (v : ℕ) → v < r → (v ≡ h.source → ⊥) → ratio_at (own_of h (ratios_of p q)) v ≡ house h
+    below_house few none_other v i = (other_told h (own_of h (ratios_of p q)) v).fails (tested v (omega (arith, count_own, few)) ∙ none_other v i)
 
     -- 20
-    pub gives_twenty : r < k → {v : WriteAnswer} → v ≡ Unwritten (refusal 20 r) → MovesNet wanted net room v room
-    gives_twenty i x =
-        let j : r < length (own_of h (ratios_of p q)) = omega (arith, count_own) in
-        let y = (other_told h (own_of h (ratios_of p q)) r).passes (tested r j ∙ o.is_other i) in
-        let z = by_twenty wanted net (length room) ne (lowest_other net (record { is_post = j; not_source = y.0; another = y.1; lower_house = below_house })) in
+    pub gives_twenty : {r : ℕ} → LowestAt h (ratios_of p q) k r → {v : Result ℕ Refusal} → v ≡ Err (refusal 20 r) → MovesNet wanted net room v room
+    gives_twenty {r} o x =
+        let j : r < length (own_of h (ratios_of p q)) = omega (arith, count_own, o.is_post) in
+        let y = (other_told h (own_of h (ratios_of p q)) r).passes (tested r j ∙ o.is_other) in
+        let z = by_twenty wanted net (length room) ne (lowest_other net (record { is_post = j; not_source = y.0; another = y.1; lower_house = below_house (omega (arith, o.is_post)) o.none_below })) in
         record { answers = rw z x; leaves = rw z }
 
     -- neither
-    pub all_house : k ≤ r → AllHouse net
-    all_house i v j = below_house v (omega (arith, count_own))
+    pub all_house : NoneOther h (ratios_of p q) k → AllHouse net
+    all_house o v j = below_house (omega arith) o v (omega (arith, count_own))
 
   -- THE NET TO BE WRITTEN: that of the same segments and of the house ratio in two lists
   abbrev moved : Net
-  moved = net_at (the_head_in wanted h) (alike h.p) (alike h.q) (take m a) (take m b) (take m l)
+  moved = net_at (the_head_in wanted h) (alike h.p) (alike h.q) a b l
 
   at_most : (v : ℕ) → v < length (in_form wanted net).own → v < most_posts
   unfolding in_form
@@ -127,22 +125,22 @@ module _ (wanted : Form) {h : Head} {m : ℕ} {p q a b l : List ℕ} (f : Front 
   is_moved =
       let e = kept_from (in_form wanted net) (moved_kept wanted net) (ratios_of (alike h.p) (alike h.q)) (omega (arith, house_many h, few))
       (λ v k ne. house_at h v (at_most v k) ∙ sym (moved_house wanted net v k ne)) in
-      λ i. record { head = the_head_in wanted h; own = e i; segments = segments_of (take m a) (take m b) (take m l) }
+      λ i. record { head = the_head_in wanted h; own = e i; segments = segments_of a b l }
 
-  pub moved_ready : {g : Head} → g ≡ the_head_in wanted h → Ready g (alike h.p) (alike h.q) (take m a) (take m b) (take m l)
+  pub moved_ready : {g : Head} → g ≡ the_head_in wanted h → Ready g (alike h.p) (alike h.q) a b l
   unfolding in_form
   moved_ready e =
       rw e
       (record {
         b_level = f.ready.b_level;
         lengths_level = f.ready.lengths_level;
-        sound = rw is_moved (moved_sound wanted net (length (segments_of (take m a) (take m b) (take m l))) f.ready.sound);
+        sound = rw is_moved (moved_sound wanted net (length (segments_of a b l)) f.ready.sound);
       })
 
   -- what writing refuses of it is what refuses the move, where 30 and 20 don't
   module _ (ne : h.form ≡ wanted → ⊥) (all : AllHouse net) where
     abbrev count : ℕ
-    count = length (segments_of (take m a) (take m b) (take m l))
+    count = length (segments_of a b l)
 
     enough : FirstOf (room_of_ratios (in_form wanted net).head.posts most_posts) none
     unfolding room_of_ratios in_form
@@ -155,8 +153,8 @@ module _ (wanted : Form) {h : Head} {m : ℕ} {p q a b l : List ℕ} (f : Front 
         sym (first_only (none_append (sound_first every count (in_form wanted net) (moved_sound wanted net count f.ready.sound)) (none_append enough last)))
         ∙ sym (by_last wanted net (length room) ne (no_other net all) last)
 
-    pub gives_written : {g : Head} → g ≡ the_head_in wanted h → {r : WriteAnswer} {room' : List ℕ}
-        → Writes (net_at g (alike h.p) (alike h.q) (take m a) (take m b) (take m l)) count (length (ratios_of (alike h.p) (alike h.q))) room r room' → MovesNet wanted net room r room'
+    pub gives_written : {g : Head} → g ≡ the_head_in wanted h → {r : Result ℕ Refusal} {room' : List ℕ}
+        → Writes (net_at g (alike h.p) (alike h.q) a b l) count (length (ratios_of (alike h.p) (alike h.q))) room r room' → MovesNet wanted net room r room'
     unfolding write_answer_of the_room_after
     gives_written e w =
         let v = rw (e, is_moved, house_many h) at w in
@@ -164,9 +162,9 @@ module _ (wanted : Form) {h : Head} {m : ℕ} {p q a b l : List ℕ} (f : Front 
         record { answers = rw (← z) v.answers; leaves = rw (← z) v.leaves }
 
 -- A RECORD
-pub moves_refused : (wanted : Form) (bytes room : List ℕ) (r : Refusal) → record_read bytes ≡ unread r → Moves wanted bytes room (Unwritten r) room
+pub moves_refused : (wanted : Form) (bytes room : List ℕ) (r : Refusal) → record_read bytes ≡ unread r → Moves wanted bytes room (Err r) room
 moves_refused wanted bytes room r e = record { answers = rw e; leaves = rw e }
 
-pub moves_read : (wanted : Form) (bytes room : List ℕ) {h : Head} {m : ℕ} {p q x y z : List ℕ} {r : WriteAnswer} {room' : List ℕ} → NetRead bytes h m p q x y z
-    → MovesNet wanted (front_of h m p q x y z) room r room' → Moves wanted bytes room r room'
-moves_read wanted bytes room g j = let e = g.is in record { answers = rw e j.answers; leaves = rw e j.leaves }
+pub moves_read : (wanted : Form) (bytes room : List ℕ) {h : Head} {m : ℕ} {p q x y z : List ℕ} {n : Net} {r : Result ℕ Refusal} {room' : List ℕ} → NetRead bytes h m p q x y z → n ≡ front_of h m p q x y z
+    → MovesNet wanted n room r room' → Moves wanted bytes room r room'
+moves_read wanted bytes room g is j = let e = g.is in record { answers = rw (e, ← is) j.answers; leaves = rw (e, ← is) j.leaves }

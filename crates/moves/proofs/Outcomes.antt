@@ -17,16 +17,15 @@ use Rattle.net.proofs.Own.{ratio_own}
 use Rattle.numbers.specs.Numbers.{Bytes, Got, got, refused as unread}
 use Rattle.writing.specs.Writing.{net_written}
 use Rattle.writing.specs.Answers.{Said, result, refusal_of, said_size, says_written, write_answer_by}
-use Rattle.writing.specs.declared.WriteAnswer.{WriteAnswer}
-use Rattle.writing.specs.declared.WriteAnswer.TheVariants.{Refused as Unwritten}
 use Rattle.on_records.specs.Asked.{record_read}
 use Rattle.moves.specs.Moves.{in_form, move_refusal, move_of, room_moved, Moves, move_said, unmoved_of}
 use Rattle.moves.specs.Rules.{AllHouse, NetRule, thirty, twenty, eighteen, nothing, MoveRule}
 use Rattle.moves.proofs.Ruled.{net_answers, move_only, move_answers}
 use Rattle.moves.proofs.There.{read_sound}
+use Rattle.std.specs.Prelude.{Result, Err}
 
 -- TWO OUTCOMES ARE EQUAL
-pub move_one : (f : Form) (bytes room : List ℕ) {r r₂ : WriteAnswer} {x x₂ : List ℕ} → Moves f bytes room r x → Moves f bytes room r₂ x₂ → (r ≡ r₂) × (x ≡ x₂)
+pub move_one : (f : Form) (bytes room : List ℕ) {r r₂ : Result ℕ Refusal} {x x₂ : List ℕ} → Moves f bytes room r x → Moves f bytes room r₂ x₂ → (r ≡ r₂) × (x ≡ x₂)
 move_one f bytes room p q = (p.answers ∙ sym q.answers, p.leaves ∙ sym q.leaves)
 
 -- WHAT THE ANSWER SAYS
@@ -38,27 +37,27 @@ says_move : (f : Form) (g : Got Net) (room : ℕ) → says_written (move_of f g 
 says_move f (got n next) room = by_refusal (move_refusal f n room) _
 says_move f (unread r) room = refl
 
-pub move_says : (f : Form) (bytes room : List ℕ) {r : WriteAnswer} {x : List ℕ} → Moves f bytes room r x → says_written r ≡ move_said f (record_read bytes) (length room)
+pub move_says : (f : Form) (bytes room : List ℕ) {r : Result ℕ Refusal} {x : List ℕ} → Moves f bytes room r x → says_written r ≡ move_said f (record_read bytes) (length room)
 move_says f bytes room p = ap says_written p.answers ∙ says_move f (record_read bytes) (length room)
 
 -- WHERE THE RULES REFUSE
-by_answer : (o : Option Refusal) (size : ℕ) {q : Refusal} → write_answer_by o size ≡ Unwritten q → o ≡ some q
+by_answer : (o : Option Refusal) (size : ℕ) {q : Refusal} → write_answer_by o size ≡ Err q → o ≡ some q
 by_answer none size e = let z : ◌≡◌ {A = ℕ} 0 1 = cc in absurd (omega arith)
 by_answer (some s) size e = cc
 
-pub refused_by : (f : Form) (g : Got Net) (room : ℕ) {q : Refusal} → move_of f g room ≡ Unwritten q → unmoved_of f g room ≡ some q
+pub refused_by : (f : Form) (g : Got Net) (room : ℕ) {q : Refusal} → move_of f g room ≡ Err q → unmoved_of f g room ≡ some q
 refused_by f (got n next) room e = by_answer (move_refusal f n room) _ e
 refused_by f (unread s) room e = cc
 
-module _ (f : Form) (bytes room : List ℕ) {r : WriteAnswer} {x : List ℕ} (w : Moves f bytes room r x) {q : Refusal} where
-  pub refusal_given : MoveRule f bytes (length room) (some q) → (r ≡ Unwritten q) × (x ≡ room)
+module _ (f : Form) (bytes room : List ℕ) {r : Result ℕ Refusal} {x : List ℕ} (w : Moves f bytes room r x) {q : Refusal} where
+  pub refusal_given : MoveRule f bytes (length room) (some q) → (r ≡ Err q) × (x ≡ room)
   refusal_given rule = go (record_read bytes) (sym (move_only f bytes (length room) rule)) w.answers w.leaves
     where
-      go : (g : Got Net) → unmoved_of f g (length room) ≡ some q → r ≡ move_of f g (length room) → x ≡ room_moved f g room → (r ≡ Unwritten q) × (x ≡ room)
+      go : (g : Got Net) → unmoved_of f g (length room) ≡ some q → r ≡ move_of f g (length room) → x ≡ room_moved f g room → (r ≡ Err q) × (x ≡ room)
       go (got n next) e y z = (rw e at y, rw e at z)
       go (unread s) e y z = let k : s ≡ q = cc in (rw k at y, z)
 
-  pub only_refused : Bytes bytes → r ≡ Unwritten q → MoveRule f bytes (length room) (some q)
+  pub only_refused : Bytes bytes → r ≡ Err q → MoveRule f bytes (length room) (some q)
   only_refused all e = rw (refused_by f (record_read bytes) (length room) (sym w.answers ∙ e)) at (move_answers f bytes (length room) all)
 
 -- the number of a refusal, and 0 of a length
@@ -88,7 +87,7 @@ module _ (bytes : List ℕ) {n : Net} {next : ℕ} (e : record_read bytes ≡ go
   not_first : n.head.form ≡ First → ⊥
   not_first f = let c : ◌≡◌ {A = Form} First Second = sym f ∙ second in let z : ◌≡◌ {A = ℕ} 0 1 = cc in omega arith
 
-  module _ (room : List ℕ) {a : WriteAnswer} {x : List ℕ} (w : Moves First bytes room a x) where
+  module _ (room : List ℕ) {a : Result ℕ Refusal} {x : List ℕ} (w : Moves First bytes room a x) where
     pub no_twenty : ((v : ℕ) → says_written a ≡ refusal_of (refusal 20 v) → ⊥) → Equal
     no_twenty none-given = go (move_refusal First n (length room)) (net_answers First n (length room)) (rw e at w.answers)
       where

@@ -10,12 +10,14 @@ use lib.Dec.{eqb}
 use lib.ListN.{length, get_or}
 use borrow.Author.Tests.{eqb-true, eqb-false, eq-eqb, ne_eqb}
 use Rattle.net.specs.Net.{Ratio, house, ratio_at, ratios_of, own_of}
+use denote.Enum.Bare.{sameb}
+use Rattle.net.specs.contracts.Form.{the_type}
 use Rattle.net.specs.declared.Form.{Form}
 use Rattle.net.specs.declared.Form.TheVariants.{First, Second}
 use Rattle.net.specs.declared.Head.{Head}
 use Rattle.net.proofs.Own.{ratio_fields, own_at}
 use Rattle.net.proofs.Tables.{Tells}
-use Rattle.moves.specs.Moves.{the_same_form, the_other_ratio, the_other_at}
+use Rattle.moves.specs.Moves.{the_same_form, the_other_ratio, the_other_at, NoneOther}
 
 first_second : First ≡ Second → ⊥
 first_second e = let z : ◌≡◌ {A = ℕ} 0 1 = cc in omega arith
@@ -34,6 +36,13 @@ same_form_law f g = record { passes = passes f g; fails = fails f g; not_both = 
     fails Second Second e = let z : ◌≡◌ {A = ℕ} 0 1 = cc in absurd (omega arith)
     fails First Second e = first_second
     fails Second First e = λ x. first_second (sym x)
+
+-- the code's own test of two forms
+pub forms_tested : (f g : Form) {r : Bool} → r ≡ sameb the_type f g → r ≡ the_same_form f g
+forms_tested First First e = e
+forms_tested First Second e = e
+forms_tested Second First e = e
+forms_tested Second Second e = e
 
 -- A RATIO is another exactly where it isn't the house ratio
 module _ (h : Head) (r : Ratio) where
@@ -84,9 +93,6 @@ source_is h own v e = rw (eq-eqb v h.source e)
 pub post_is : (h : Head) (p q : List ℕ) (v : ℕ) {r : Bool} → (v ≡ h.source → ⊥) → v < length p → v < length q → r ≡ the_other_ratio h (record { p = get_or p v 0; q = get_or q v 0 }) → r ≡ the_other_at h (ratios_of p q) v
 post_is h p q v ne i j e = e ∙ ap (the_other_ratio h) (ratio_fields p q v i j) ∙ rw (ne_eqb v h.source ne)
 
--- the lowest post with another ratio, post by post
-pub record NoneBelow (h : Head) (own : List Ratio) (k : ℕ) : Type 0 where
-  pub none_below : (v : ℕ) → v < k → the_other_at h own v ≡ false
-
-pub one_more : {h : Head} {own : List Ratio} {k : ℕ} → NoneBelow h own k → the_other_at h own k ≡ false → NoneBelow h own (k + 1)
-one_more {h} {own} {k} b e = record { none_below = λ v l. elim (dec_lt v k) [ yes i ↦ b.none_below v i | no i ↦ let z : v ≡ k = omega arith in rw z e ] }
+-- none of the posts that were passed, and not this one either
+pub one_more : (h : Head) (own : List Ratio) {k : ℕ} → NoneOther h own k → the_other_at h own k ≡ false → NoneOther h own (k + 1)
+one_more h own {k} b e = λ v l. elim (dec_lt v k) [ yes i ↦ b v i | no i ↦ let z : v ≡ k = omega arith in rw z e ]

@@ -15,19 +15,18 @@ use Rattle.numbers.specs.Numbers.{Bytes, Got, got, refused as unread}
 use Rattle.numbers.specs.Putting.{onto}
 use Rattle.writing.specs.Writing.{net_written, after_writing}
 use Rattle.writing.specs.Answers.{result, says_written, write_answer_by}
-use Rattle.writing.specs.declared.WriteAnswer.{WriteAnswer}
-use Rattle.writing.specs.declared.WriteAnswer.TheVariants.{Written, Refused as Unwritten}
 use Rattle.reading.proofs.RoundTrip.{ReadSound, sound_of_read, written_of_read, read_of_written}
 use Rattle.on_records.specs.Asked.{record_read}
 use Rattle.moves.specs.Moves.{in_form, move_refusal, move_of, room_moved, Moves}
 use Rattle.moves.specs.Rules.{AllHouse, NetRule, nothing}
 use Rattle.moves.proofs.Forms.{moved_kept, moved_house, moved_sound, there_and_back}
 use Rattle.moves.proofs.Ruled.{net_answers, net_only}
+use Rattle.std.specs.Prelude.{Result, Ok, Err}
 
 -- an answer that says a length
-says_size : (a : WriteAnswer) {k : ℕ} → says_written a ≡ result k → a ≡ Written k
-says_size (Written size) e = cc
-says_size (Unwritten r) e = let z : ◌≡◌ {A = ℕ} 0 1 = cc in absurd (omega arith)
+says_size : (a : Result ℕ Refusal) {k : ℕ} → says_written a ≡ result k → a ≡ Ok k
+says_size (Ok size) e = cc
+says_size (Err r) e = let z : ◌≡◌ {A = ℕ} 0 1 = cc in absurd (omega arith)
 
 -- there are two forms
 third_form : (f g h : Form) → (f ≡ g → ⊥) → (h ≡ f → ⊥) → h ≡ g
@@ -54,7 +53,7 @@ pub record WasMoved (f : Form) (bytes room : List ℕ) (size : ℕ) (x : List �
   pub room_long : length (net_written (in_form f n)) ≤ length room
   pub room_is : x ≡ onto (net_written (in_form f n)) room
 
-pub was_moved : (f : Form) (bytes room : List ℕ) {a : WriteAnswer} {x : List ℕ} {size : ℕ} → Moves f bytes room a x → says_written a ≡ result size → WasMoved f bytes room size x
+pub was_moved : (f : Form) (bytes room : List ℕ) {a : Result ℕ Refusal} {x : List ℕ} {size : ℕ} → Moves f bytes room a x → says_written a ≡ result size → WasMoved f bytes room size x
 was_moved f bytes room {a} {x} {size} w s = go (record_read bytes) refl w.answers w.leaves
   where
     by_rule : (n : Net) (next : ℕ) → record_read bytes ≡ got n next → (o : Option Refusal) → NetRule f n (length room) o
@@ -99,7 +98,7 @@ module _ {f g : Form} (apart : f ≡ g → ⊥) {bytes room : List ℕ} {size : 
   nothing_refuses : (room₂ : ℕ) → length bytes ≤ room₂ → move_refusal g (in_form f w.n) room₂ ≡ none
   nothing_refuses room₂ long = net_only g (in_form f w.n) room₂ (nothing (λ e. apart (sym form_moved ∙ e)) (moved_house f w.n) (rw home long))
 
-  pub home_again : (room₂ : List ℕ) {b : WriteAnswer} {y : List ℕ} → Moves g (take size x) room₂ b y → length bytes ≤ length room₂ → (says_written b ≡ result (length bytes)) × (y ≡ onto bytes room₂)
+  pub home_again : (room₂ : List ℕ) {b : Result ℕ Refusal} {y : List ℕ} → Moves g (take size x) room₂ b y → length bytes ≤ length room₂ → (says_written b ≡ result (length bytes)) × (y ≡ onto bytes room₂)
   home_again room₂ back long =
       let r = moved_reads w in
       let z = nothing_refuses (length room₂) long in

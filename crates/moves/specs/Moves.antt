@@ -3,8 +3,9 @@
 -- lowest post with another ratio, then 18"; the answer, and the room afterwards. Both moves are one, over the form that
 -- is wanted. Relies on net's lines of refusals, on writing's `Writing` and `Answers` and on `record_read` of
 -- `on_records`. `Rules` says the same without an order of work, and proofs/Ruled joins the two.
-use Rattle.std.specs.Prelude.{◌≡◌, Bool, true, false, not, ◌&&◌, ◌||◌, List, [], ◌∷◌, ◌++◌, ℕ, ◌<◌, ◌≤◌, eqb, length}
+use Rattle.std.specs.Prelude.{◌≡◌, Bool, true, false, not, ◌&&◌, ◌||◌, List, [], ◌∷◌, ◌++◌, ℕ, ◌<◌, eqb, length}
 use Rattle.std.proofs.Math.Option.{Option, some}
+use Rattle.std.specs.Prelude.{Option as Maybe, Some, None}
 use Rattle.net.specs.Words.{each, tab}
 use Rattle.net.specs.Net.{Ratio, house, Net, net_with, ratio_at}
 use Rattle.net.specs.Refusals.{Line, line, first}
@@ -15,9 +16,8 @@ use Rattle.net.specs.declared.Refusal.{Refusal}
 use Rattle.numbers.specs.Numbers.{Got, got, refused as unread}
 use Rattle.writing.specs.Writing.{net_written, short_lines, after_writing}
 use Rattle.writing.specs.Answers.{Said, refusal_of, said_size, write_answer_by}
-use Rattle.writing.specs.declared.WriteAnswer.{WriteAnswer}
-use Rattle.writing.specs.declared.WriteAnswer.TheVariants.{Refused as Unwritten}
 use Rattle.on_records.specs.Asked.{record_read}
+use Rattle.std.specs.Prelude.{Result, Err}
 
 -- THE SAME NET IN A FORM: the head with that form, and the house ratio for each post, of which a net of the first form
 -- keeps nothing, and one of the second all but the source's
@@ -65,9 +65,9 @@ move_refusal wanted n room = first (form_lines wanted n
     ++ (other_lines n ++ short_lines room (length (net_written (in_form wanted n)))))
 
 -- THE ANSWER: the length of the record that was written, or a refusal; a refusal of reading comes first
-abbrev pub move_of : Form → Got Net → ℕ → WriteAnswer
+abbrev pub move_of : Form → Got Net → ℕ → Result ℕ Refusal
 move_of wanted (got n next) room = write_answer_by (move_refusal wanted n room) (length (net_written (in_form wanted n)))
-move_of wanted (unread r) room = Unwritten r
+move_of wanted (unread r) room = Err r
 
 -- the room afterwards: the record followed by what stood there; after a refusal "what it held before"
 abbrev pub room_moved : Form → Got Net → List ℕ → List ℕ
@@ -75,20 +75,20 @@ room_moved wanted (got n next) room = after_writing (move_refusal wanted n (leng
 room_moved wanted (unread r) room = room
 
 -- what a move of a record leaves, where the room held `room`: its answer r, and what the room holds then
-pub record Moves (wanted : Form) (bytes room : List ℕ) (r : WriteAnswer) (room' : List ℕ) : Type 0 where
+pub record Moves (wanted : Form) (bytes room : List ℕ) (r : Result ℕ Refusal) (room' : List ℕ) : Type 0 where
   pub answers : r ≡ move_of wanted (record_read bytes) (length room)
   pub leaves : room' ≡ room_moved wanted (record_read bytes) room
 
 -- "a move that gives each post the house ratio"
-abbrev pub ToSecond : List ℕ → List ℕ → WriteAnswer → List ℕ → Type 0
+abbrev pub ToSecond : List ℕ → List ℕ → Result ℕ Refusal → List ℕ → Type 0
 ToSecond = Moves Second
 
 -- "and a move back"
-abbrev pub ToFirst : List ℕ → List ℕ → WriteAnswer → List ℕ → Type 0
+abbrev pub ToFirst : List ℕ → List ℕ → Result ℕ Refusal → List ℕ → Type 0
 ToFirst = Moves First
 
 -- the same of a net that is at hand
-pub record MovesNet (wanted : Form) (n : Net) (room : List ℕ) (r : WriteAnswer) (room' : List ℕ) : Type 0 where
+pub record MovesNet (wanted : Form) (n : Net) (room : List ℕ) (r : Result ℕ Refusal) (room' : List ℕ) : Type 0 where
   pub answers : r ≡ write_answer_by (move_refusal wanted n (length room)) (length (net_written (in_form wanted n)))
   pub leaves : room' ≡ after_writing (move_refusal wanted n (length room)) (in_form wanted n) room
 
@@ -101,11 +101,20 @@ abbrev pub unmoved_of : Form → Got Net → ℕ → Option Refusal
 unmoved_of wanted (got n next) room = move_refusal wanted n room
 unmoved_of wanted (unread r) room = some r
 
--- r is the lowest of k posts with another ratio, or k where there is none
-pub record LowestOther (h : Head) (own : List Ratio) (k r : ℕ) : Type 0 where
-  pub up_to : r ≤ k
-  pub none_below : (v : ℕ) → v < r → the_other_at h own v ≡ false
-  pub is_other : r < k → the_other_at h own r ≡ true
+-- none of k posts has another ratio
+abbrev pub NoneOther : Head → List Ratio → ℕ → Type 0
+NoneOther h own k = (v : ℕ) → v < k → the_other_at h own v ≡ false
+
+-- r is one of k posts, the lowest with another ratio
+pub record LowestAt (h : Head) (own : List Ratio) (k r : ℕ) : Type 0 where
+  pub is_post : r < k
+  pub none_below : NoneOther h own r
+  pub is_other : the_other_at h own r ≡ true
+
+-- the lowest of k posts with another ratio, if one has
+abbrev pub LowestOther : Head → List Ratio → ℕ → Maybe ℕ → Type 0
+LowestOther h own k None = NoneOther h own k
+LowestOther h own k (Some r) = LowestAt h own k r
 
 -- how many posts of a net have a place for an own ratio: none in the first form
 abbrev pub the_own_posts : Head → Form → ℕ

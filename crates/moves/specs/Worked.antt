@@ -4,16 +4,16 @@
 -- table.
 use Rattle.std.specs.Prelude.{List, [], ◌∷◌, ◌++◌, ℕ, replicate}
 use Rattle.net.specs.Refusals.{refusal}
-use Rattle.writing.specs.declared.WriteAnswer.{WriteAnswer}
-use Rattle.writing.specs.declared.WriteAnswer.TheVariants.{Written, Refused}
 use Rattle.reading.specs.Worked.{bytes_s, bytes_a}
 use Rattle.moves.specs.Moves.{ToSecond, ToFirst}
+use Rattle.net.specs.declared.Refusal.{Refusal}
+use Rattle.std.specs.Prelude.{Result, Ok, Err}
 
 abbrev nines : ℕ → List ℕ
 nines k = replicate k 99
 
-abbrev no : ℕ → ℕ → WriteAnswer
-no number place = Refused (refusal number place)
+abbrev no : ℕ → ℕ → Result ℕ Refusal
+no number place = Err (refusal number place)
 
 -- net A in the second form, where every post has the house ratio 1/1
 abbrev pub house_a : List ℕ
@@ -32,22 +32,22 @@ ahead bytes k = bytes ++ nines k
 
 pub record MovesWorked : Type 0 where
   -- net A forward and back; a room that is one byte too short
-  pub a_forward : ToSecond bytes_a (nines 30) (Written 27) (ahead house_a 3)
+  pub a_forward : ToSecond bytes_a (nines 30) (Ok 27) (ahead house_a 3)
   pub a_forward_short : ToSecond bytes_a (nines 26) (no 18 0) (nines 26)
-  pub a_back : ToFirst house_a (nines 22) (Written 20) (ahead bytes_a 2)
+  pub a_back : ToFirst house_a (nines 22) (Ok 20) (ahead bytes_a 2)
   pub a_back_short : ToFirst house_a (nines 19) (no 18 0) (nines 19)
   -- two posts: the ratio is that of the post which isn't the source
-  pub source_0 : ToSecond (2 ∷ 0 ∷ 1 ∷ 2 ∷ 1 ∷ 0 ∷ 1 ∷ 172 ∷ 2 ∷ []) (nines 20) (Written 12)
+  pub source_0 : ToSecond (2 ∷ 0 ∷ 1 ∷ 2 ∷ 1 ∷ 0 ∷ 1 ∷ 172 ∷ 2 ∷ []) (nines 20) (Ok 12)
       (ahead (0 ∷ 2 ∷ 0 ∷ 1 ∷ 2 ∷ 1 ∷ 1 ∷ 2 ∷ 0 ∷ 1 ∷ 172 ∷ 2 ∷ []) 8)
-  pub source_1 : ToSecond (2 ∷ 1 ∷ 1 ∷ 2 ∷ 1 ∷ 0 ∷ 1 ∷ 172 ∷ 2 ∷ []) (nines 20) (Written 12)
+  pub source_1 : ToSecond (2 ∷ 1 ∷ 1 ∷ 2 ∷ 1 ∷ 0 ∷ 1 ∷ 172 ∷ 2 ∷ []) (nines 20) (Ok 12)
       (ahead (0 ∷ 2 ∷ 1 ∷ 1 ∷ 2 ∷ 1 ∷ 1 ∷ 2 ∷ 0 ∷ 1 ∷ 172 ∷ 2 ∷ []) 8)
   -- p is 200, two bytes; three posts and no segment
-  pub two_bytes : ToSecond (3 ∷ 1 ∷ 200 ∷ 1 ∷ 3 ∷ 0 ∷ []) (nines 40) (Written 13)
+  pub two_bytes : ToSecond (3 ∷ 1 ∷ 200 ∷ 1 ∷ 3 ∷ 0 ∷ []) (nines 40) (Ok 13)
       (ahead (0 ∷ 3 ∷ 1 ∷ 200 ∷ 1 ∷ 3 ∷ 0 ∷ 200 ∷ 1 ∷ 3 ∷ 200 ∷ 1 ∷ 3 ∷ []) 27)
   -- one post both ways; two posts that aren't joined
-  pub one_forward : ToSecond (1 ∷ 0 ∷ 1 ∷ 2 ∷ 0 ∷ []) (nines 8) (Written 6) (ahead (0 ∷ 1 ∷ 0 ∷ 1 ∷ 2 ∷ 0 ∷ []) 2)
-  pub one_back : ToFirst (0 ∷ 1 ∷ 0 ∷ 1 ∷ 2 ∷ 0 ∷ []) (nines 8) (Written 5) (ahead (1 ∷ 0 ∷ 1 ∷ 2 ∷ 0 ∷ []) 3)
-  pub apart : ToSecond (2 ∷ 0 ∷ 1 ∷ 2 ∷ 0 ∷ []) (nines 20) (Written 8)
+  pub one_forward : ToSecond (1 ∷ 0 ∷ 1 ∷ 2 ∷ 0 ∷ []) (nines 8) (Ok 6) (ahead (0 ∷ 1 ∷ 0 ∷ 1 ∷ 2 ∷ 0 ∷ []) 2)
+  pub one_back : ToFirst (0 ∷ 1 ∷ 0 ∷ 1 ∷ 2 ∷ 0 ∷ []) (nines 8) (Ok 5) (ahead (1 ∷ 0 ∷ 1 ∷ 2 ∷ 0 ∷ []) 3)
+  pub apart : ToSecond (2 ∷ 0 ∷ 1 ∷ 2 ∷ 0 ∷ []) (nines 20) (Ok 8)
       (ahead (0 ∷ 2 ∷ 0 ∷ 1 ∷ 2 ∷ 0 ∷ 1 ∷ 2 ∷ []) 12)
   -- 30 before 20 and 18
   pub thirty_forward : ToSecond two_others [] (no 30 0) []

@@ -9,8 +9,7 @@ use Rattle.numbers.specs.Numbers.{Bytes}
 use Rattle.reading.specs.Reading.{enough_bytes}
 use Rattle.reading.proofs.Lengths.{program_enough}
 use Rattle.on_records.specs.Asked.{record_read}
-use Rattle.moving.specs.Handing.{the_wanted_by, handing_of, handing, Hands, HandsOn}
-use Rattle.moving.specs.declared.Handed.{Handed}
+use Rattle.moving.specs.Handing.{the_wanted_by, handing_of, handing, Handed, Hands, HandsOn}
 use Rattle.moving.proofs.Given.{hands_same}
 
 pub whole_input : (f : Form) (bytes : List ℕ) → Bytes bytes → handing f (take enough_bytes bytes) ≡ handing f bytes

@@ -1,6 +1,6 @@
 -- What the program that moves a record hands on: the record in the form that is wanted, for standard output, or the one
 -- line of a refusal, for standard error. Relies on `moves` for the move of a record, and on lines for the text.
-use Rattle.std.specs.Prelude.{◌≡◌, cond, List, ℕ, eqb, length, take}
+use Rattle.std.specs.Prelude.{◌≡◌, cond, List, ℕ, eqb, length, take, Result, Ok, Err}
 use Rattle.std.proofs.Math.Option.{Option, none, some}
 use Rattle.net.specs.Net.{Net}
 use Rattle.net.specs.declared.Form.{Form}
@@ -8,15 +8,11 @@ use Rattle.net.specs.declared.Form.TheVariants.{First, Second}
 use Rattle.net.specs.declared.Refusal.{Refusal}
 use Rattle.numbers.specs.Numbers.{Got, got, refused}
 use Rattle.writing.specs.Writing.{net_written}
-use Rattle.writing.specs.declared.WriteAnswer.{WriteAnswer}
-use Rattle.writing.specs.declared.WriteAnswer.TheVariants.{Written, Refused as Unwritten}
 use Rattle.reading.specs.Reading.{enough_bytes, longest_record}
 use Rattle.on_records.specs.Asked.{record_read}
 use Rattle.moves.specs.Moves.{in_form, move_refusal}
 use Rattle.lines.specs.Text.{refused_line}
 use Rattle.lines.specs.Putting.{Put}
-use Rattle.moving.specs.declared.Handed.{Handed}
-use Rattle.moving.specs.declared.Handed.TheVariants.{Moved, Refused}
 
 -- WHERE TO, by the byte that the program is given before the record: the digit 1 says the first form, every other byte
 -- the second
@@ -47,14 +43,18 @@ unfoldable pub handing : Form → List ℕ → Handing
 handing wanted bytes = handing_of wanted (record_read bytes)
 
 -- of a move's answer, with what the room holds then: what is handed on for the record that was moved (proofs/Given)
-abbrev pub answer_handing : WriteAnswer → List ℕ → Handing
-answer_handing (Written size) x = for_output (take size x)
-answer_handing (Unwritten r) x = for_error (refused_line r.number r.place)
+abbrev pub answer_handing : Result ℕ Refusal → List ℕ → Handing
+answer_handing (Ok size) x = for_output (take size x)
+answer_handing (Err r) x = for_error (refused_line r.number r.place)
 
--- the code's answer: how many bytes of the room are handed on, and where to
+-- the code's answer: how many bytes of the room are handed on, and where to. Those of a record that was moved, or as an
+-- error the line of a refusal
+abbrev pub Handed : Type 0
+Handed = Result ℕ ℕ
+
 abbrev pub handed_as : Handing → Handed
-handed_as (for_output bytes) = Moved (length bytes)
-handed_as (for_error line) = Refused (length line)
+handed_as (for_output bytes) = Ok (length bytes)
+handed_as (for_error line) = Err (length line)
 
 -- what is handed on is put at the front of the room that held `out`; r is the answer
 pub record Hands (h : Handing) (out : List ℕ) (r : Handed) (out' : List ℕ) : Type 0 where

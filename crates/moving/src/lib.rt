@@ -5,74 +5,54 @@
 #![tactic(auto)]
 
 ghost use Rattle.std.specs.Prelude.{◌≡◌, length as size};
-ghost use Rattle.moves.specs.Moves.{Moves};
 ghost use Rattle.reading.specs.Reading.{longest_record};
 ghost use Rattle.moving.specs.Handing.{the_wanted_by, handing, Hands, HandsOn};
 
-use moves::{to_first, to_second};
+use lines::put_refused;
+use moves::move_to;
 use net::Form;
-use writing::WriteAnswer;
 
-// The room for what is read of a record, in bytes, and for what is handed on.
+// The room for what is read of a record, in bytes.
+// Also in printing: neither program's crate stands on the other.
 pub const ENOUGH_BYTES: usize = 15372;
 
+// The room for what is handed on, in bytes.
 pub const LONGEST_RECORD: usize = 15367;
 
-// How many bytes are handed on: those of a record that was moved, or the line of a refusal.
-#[derive(Clone, Copy)]
-pub enum Handed {
-    Moved(usize),
-    Refused(usize),
-}
-
 // The form that the byte before a record says: the digit 1 is the first, every other byte the second.
+// No From: Form is net's, and this byte is the program's.
 fn wanted_by(way: u8) -> Form
     ensures { result ≡ the_wanted_by way }
 {
-    if way == b'1' {
-        Form::First
-    } else {
-        Form::Second
+    match way {
+        b'1' => Form::First,
+        _ => Form::Second,
     }
 }
 
-// Moves a record to the form that is wanted.
-fn moved(wanted: Form, bytes: &[u8], room: &mut [u8]) -> WriteAnswer
-    ensures { Moves wanted bytes.now room.old result room.new }
-{
-    match wanted {
-        Form::First => to_first(bytes, room),
-        Form::Second => to_second(bytes, room),
-    }
-}
-
-// Puts what is handed on for the bytes of a record at the front of the room for it.
-fn hand(wanted: Form, bytes: &[u8], out: &mut [u8]) -> Handed
+// Puts what is handed on for the bytes of a record at the front of the room for it, and answers how many bytes that is:
+// those of a record that was moved, or as an error the line of a refusal.
+fn hand(wanted: Form, bytes: &[u8], out: &mut [u8]) -> Result<usize, usize>
     requires { size out.old ≡ longest_record }
     ensures { Hands (handing wanted bytes.now) out.old result out.new }
 {
-    let answer = moved(wanted, bytes, out);
-    match answer {
-        WriteAnswer::Written(length) => Handed::Moved(length as usize),
-        WriteAnswer::Refused(r) => Handed::Refused(lines::put_refused(r.number, r.place, out)),
+    match move_to(wanted, bytes, out) {
+        Ok(length) => Ok(length as usize),
+        Err(refusal) => Err(put_refused(refusal, out)),
     }
 }
 
 // HAND ON, for every input: puts what is handed on for the first n bytes of a record that were read, or for all where n
-// is more, at the front of the room for it, and answers how many bytes that is, and where they go.
+// is more, at the front of the room for it, and answers how many bytes that is: those of a record that was moved, for
+// standard output, or as an error the line of a refusal, for standard error.
 pub fn hand_on(
     way: u8,
     input: &[u8; ENOUGH_BYTES],
     n: usize,
     out: &mut [u8; LONGEST_RECORD],
-) -> Handed
+) -> Result<usize, usize>
     ensures handed { HandsOn way input.now n out.old result out.new }
 {
     let wanted = wanted_by(way);
-    let bytes: &[u8] = input;
-    if n < bytes.len() {
-        hand(wanted, &bytes[..n], out)
-    } else {
-        hand(wanted, bytes, out)
-    }
+    hand(wanted, &input[..n.min(input.len())], out)
 }

@@ -1,6 +1,6 @@
 -- What a check answers, and what an answer tells of the lines of its table. `check_sound`, `check_faulty`: what is answered for a whole net, by the rules.
 -- Rests on 1 to 7 (Faults).
-use mathlib.Core.Path.{◌≡◌, refl, sym, ◌∙◌}
+use mathlib.Core.Path.{◌≡◌, refl, sym, ap, ◌∙◌}
 use mathlib.Core.Logic.{◌↔◌}
 use mathlib.Core.List.{List}
 use mathlib.Core.Option.{Option, none, some}
@@ -15,44 +15,50 @@ use Rattle.net.proofs.Faults.{head_sound, faulty_first, sound_first, net_faulty,
 use Rattle.net.specs.declared.Segment.{Segment}
 use Rattle.net.specs.declared.Head.{Head}
 use Rattle.net.specs.declared.Refusal.{Refusal}
-use Rattle.net.specs.declared.Checked.{Checked}
-use Rattle.net.specs.declared.Checked.TheVariants.{Sound, Refused}
+use Rattle.std.specs.Prelude.{Result, Ok, Err}
+use Rattle.std.specs.Result.{IsErrAnd}
+use Rattle.std.proofs.lemmas.Result.{err_from_is_err_and}
+use Rattle.net.specs.Refusals.{Checked}
 
 -- A WAY OUT answers what the first line gives
-pub refused_by : {ls : List Line} {r : Refusal} → FirstOf ls (some r) → Refused r ≡ checked_of (first ls)
+pub refused_by : {ls : List Line} {r : Refusal} → FirstOf ls (some r) → Err r ≡ checked_of (first ls)
 refused_by f = rw (← first_only f)
 
-pub sound_by : {ls : List Line} → FirstOf ls none → Sound ≡ checked_of (first ls)
+pub sound_by : {ls : List Line} → FirstOf ls none → Ok tt ≡ checked_of (first ls)
 sound_by f = rw (← first_only f)
 
 -- WHAT A CALLED CHECK SAID
-pub said_refused : {ls : List Line} {v : Checked} {r : Refusal} → v ≡ checked_of (first ls) → v ≡ Refused r → FirstOf ls (some r)
+pub said_refused : {ls : List Line} {v : Checked} {r : Refusal} → v ≡ checked_of (first ls) → v ≡ Err r → FirstOf ls (some r)
 said_refused {ls} {v} {r} e f = first_is (go (first ls) (sym e ∙ f))
   where
-    go : (o : Option Refusal) → checked_of o ≡ Refused r → o ≡ some r
+    go : (o : Option Refusal) → checked_of o ≡ Err r → o ≡ some r
     go none g = absurd (let z : ◌≡◌ {A = ℕ} 0 1 = cc in omega arith)
     go (some s) g = cc
 
-pub said_sound : {ls : List Line} {v : Checked} → v ≡ checked_of (first ls) → v ≡ Sound → FirstOf ls none
+pub said_sound : {ls : List Line} {v : Checked} → v ≡ checked_of (first ls) → v ≡ Ok tt → FirstOf ls none
 said_sound {ls} {v} e f = first_is (go (first ls) (sym e ∙ f))
   where
-    go : (o : Option Refusal) → checked_of o ≡ Sound → o ≡ none
+    go : (o : Option Refusal) → checked_of o ≡ Ok tt → o ≡ none
     go none g = refl
     go (some s) g = absurd (let z : ◌≡◌ {A = ℕ} 0 1 = cc in omega arith)
 
+-- WHAT A `?` HANDS ON is the refusal that it met
+pub passed_on : {A : Type 0} {r : Result A Refusal} {e : Refusal} → IsErrAnd r (λ y. y ≡ e) → r ≡ Err e
+passed_on {A} {r} h = let p = err_from_is_err_and r h in p.1 ∙ ap Err p.2
+
 -- a head that passes has at most as many segments as a net may have
-pub few_segments : (h : Head) (count : ℕ) {v : Checked} → v ≡ checked_of (first (head_lines h count)) → v ≡ Sound → count ≤ most_segments
+pub few_segments : (h : Head) (count : ℕ) {v : Checked} → v ≡ checked_of (first (head_lines h count)) → v ≡ Ok tt → count ≤ most_segments
 few_segments h count e g = (head_sound h count (said_sound e g)).1
 
 -- BY THE RULES: a net is sound for `check` exactly where none of 1 to 7 holds
-pub check_sound : (h : Head) (ratios : List Ratio) (segs : List Segment) → (check_of h ratios segs ≡ Sound) ↔ NetSound every (length segs) (net_with h ratios segs)
+pub check_sound : (h : Head) (ratios : List Ratio) (segs : List Segment) → (check_of h ratios segs ≡ Ok tt) ↔ NetSound every (length segs) (net_with h ratios segs)
 unfolding check_of
 check_sound h ratios segs =
     let n = net_with h ratios segs in
     (λ e. (net_sound every (length segs) n).0 (sym (first_only (said_sound refl e))), λ z. sym (sound_by (sound_first every (length segs) n z)))
 
 -- and it is refused exactly as the rules say
-pub check_faulty : (h : Head) (ratios : List Ratio) (segs : List Segment) {r : Refusal} → (check_of h ratios segs ≡ Refused r) ↔ Faulty every (length segs) (net_with h ratios segs) r
+pub check_faulty : (h : Head) (ratios : List Ratio) (segs : List Segment) {r : Refusal} → (check_of h ratios segs ≡ Err r) ↔ Faulty every (length segs) (net_with h ratios segs) r
 unfolding check_of
 check_faulty h ratios segs =
     let n = net_with h ratios segs in

@@ -11,15 +11,15 @@ use Rattle.net.specs.Refusals.{check_of}
 use Rattle.net.specs.Ready.{net_at, Ready}
 use Rattle.net.specs.declared.Head.{Head}
 use Rattle.net.specs.declared.Segment.{Segment}
-use Rattle.net.specs.declared.Checked.{Checked}
-use Rattle.net.specs.declared.Checked.TheVariants.{Sound}
+use Rattle.std.specs.Prelude.{Ok}
+use Rattle.net.specs.Refusals.{Checked}
 use Rattle.net.proofs.Segments.{segments_count, length_segments}
 use Rattle.net.proofs.Checks.{check_sound}
 use Rattle.net.proofs.Least.{Inside}
 use Rattle.net.proofs.Sound.{inside}
 
 -- none of 1 to 7
-pub ready_sound : (head : Head) (p q a b lengths : List ℕ) {v : Checked} → length b ≡ length a → length lengths ≡ length a → v ≡ check_of head (ratios_of p q) (segments_of a b lengths) → v ≡ Sound → Ready head p q a b lengths
+pub ready_sound : (head : Head) (p q a b lengths : List ℕ) {v : Checked} → length b ≡ length a → length lengths ≡ length a → v ≡ check_of head (ratios_of p q) (segments_of a b lengths) → v ≡ Ok tt → Ready head p q a b lengths
 ready_sound head p q a b lengths h k e f = record { b_level = h; lengths_level = k; sound = (check_sound head (ratios_of p q) (segments_of a b lengths)).0 (sym e ∙ f) }
 
 module _ {head : Head} {p q a b lengths : List ℕ} (r : Ready head p q a b lengths) where
@@ -59,7 +59,7 @@ cut_level xs ys ls {m} e =
     (length-take-le m xs (omega arith), length-take-le m ys (omega arith), length-take-le m ls (omega arith))
 
 -- so a net of plain lists that the checks let pass is ready once its segments are cut
-pub ready_cut : (head : Head) (p q xs ys ls : List ℕ) {m : ℕ} {v : Checked} → m ≡ length (segments_of xs ys ls) → v ≡ check_of head (ratios_of p q) (segments_of xs ys ls) → v ≡ Sound
+pub ready_cut : (head : Head) (p q xs ys ls : List ℕ) {m : ℕ} {v : Checked} → m ≡ length (segments_of xs ys ls) → v ≡ check_of head (ratios_of p q) (segments_of xs ys ls) → v ≡ Ok tt
     → Ready head p q (take m xs) (take m ys) (take m ls)
 ready_cut head p q xs ys ls {m} {v} e f g =
     let c = cut_level xs ys ls e in

@@ -7,6 +7,9 @@ use Rattle.net.specs.Net.{Ratio, Net, net_with, ratios_of, every, segments_of}
 use Rattle.net.specs.Rules.{NetSound}
 use Rattle.net.specs.declared.Head.{Head}
 use Rattle.net.specs.declared.Segment.{Segment}
+use Rattle.net.specs.declared.RatioLists.{RatioLists}
+use Rattle.net.specs.declared.SegmentLists.{SegmentLists}
+use Rattle.net.specs.declared.NetLists.{NetLists}
 
 -- the net of a head, two lists of ratios and three of segments
 abbrev pub net_at : Head → List ℕ → List ℕ → List ℕ → List ℕ → List ℕ → Net
@@ -33,3 +36,23 @@ pub record Ready (head : Head) (p q a b lengths : List ℕ) : Type 0 where
   pub b_level : length b ≡ length a
   pub lengths_level : length lengths ≡ length a
   pub sound : NetSound every (length (segments_of a b lengths)) (net_at head p q a b lengths)
+
+-- THE SAME IN STRUCTS. The ratios of two lists, the segments of three, the net of them, and how many of each they are
+abbrev pub ratios_in : RatioLists → List Ratio
+ratios_in own = ratios_by own.p own.q
+
+abbrev pub segments_in : SegmentLists → List Segment
+segments_in s = segments_by s.a s.b s.lengths
+
+abbrev pub net_in : NetLists → Net
+net_in n = net_by n.head n.own.p n.own.q n.segments.a n.segments.b n.segments.lengths
+
+abbrev pub ratio_count_in : RatioLists → ℕ
+ratio_count_in own = length (ratios_in own)
+
+abbrev pub count_in : SegmentLists → ℕ
+count_in s = length (segments_in s)
+
+-- the three lists of segments are equally long, and nothing from 1 to 7 refuses the net
+abbrev pub ReadyIn : NetLists → Type 0
+ReadyIn n = Ready n.head n.own.p.now n.own.q.now n.segments.a.now n.segments.b.now n.segments.lengths.now

@@ -2,6 +2,7 @@
 -- is the first line whose test passes. `Rules` says the same line by line without tests, and proofs/Refusals joins the
 -- two.
 use Rattle.std.specs.Prelude.{Bool, true, false, not, ◌||◌, cond, List, [], ◌∷◌, ◌++◌, ℕ, eqb, ltb, leb, length}
+use Rattle.std.specs.Prelude.{Result, Ok, Err}
 use Rattle.std.proofs.Math.Option.{Option, none, some}
 use Rattle.net.specs.Words.{each}
 use Rattle.net.specs.Net.{Ratio, Net, most_posts, most_segments, longest, most_ratio, ratio_at, net_with, every}
@@ -9,8 +10,6 @@ use Rattle.net.specs.Net.{nth_segment}
 use Rattle.net.specs.declared.Segment.{Segment}
 use Rattle.net.specs.declared.Head.{Head}
 use Rattle.net.specs.declared.Refusal.{Refusal}
-use Rattle.net.specs.declared.Checked.{Checked}
-use Rattle.net.specs.declared.Checked.TheVariants.{Sound, Refused}
 
 abbrev pub refusal : ℕ → ℕ → Refusal
 refusal number place = record { number = number; place = place }
@@ -97,16 +96,25 @@ joined_lines posts joined = each posts (λ v ls. ls ++ (line 9 (not (joined v)) 
 unfoldable pub post_lines : ℕ → ℕ → List Line
 post_lines posts post = line 19 (leb posts post) 0 ∷ []
 
+-- what a check answers: nothing refuses the net, or the first refusal
+abbrev pub Checked : Type 0
+Checked = Result (Unit {0}) Refusal
+
 -- what a check answers where the table says so
 abbrev pub checked_of : Option Refusal → Checked
-checked_of none = Sound
-checked_of (some r) = Refused r
+checked_of none = Ok tt
+checked_of (some r) = Err r
 
 -- document 01's number and place for each answer of a check: none, or a refusal
 abbrev pub says_of : Checked → Option Refusal
-says_of Sound = none
-says_of (Refused r) = some r
+says_of (Ok _) = none
+says_of (Err r) = some r
 
 -- what a check of a whole net answers: 1 to 7
 unfoldable pub check_of : Head → List Ratio → List Segment → Checked
 check_of head ratios segs = checked_of (first (net_lines every (length segs) (net_with head ratios segs)))
+
+-- a value where a check passes, of which this says no more than that; or the refusal
+abbrev pub passed_of : {A : Type 0} → Result A Refusal → Checked
+passed_of (Ok _) = Ok tt
+passed_of (Err r) = Err r

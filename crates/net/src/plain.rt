@@ -1,23 +1,27 @@
-// Small steps that several crates take: a number as it is in a wider type, and the lesser of two counts.
-ghost use Rattle.std.specs.Prelude.{◌≡◌, ◌<◌, min};
+// Small steps that several crates take: a refusal as an answer, and an entry of a list where it has one.
+ghost use Rattle.std.specs.Prelude.{◌≡◌, get_or, set};
 
-// A length, a place or a number of the ratio, in 64 bits.
-pub fn wide(x: u32) -> u64
-    ensures same { (result ≡ x) × (result < 4294967296) }
+use crate::Refusal;
+
+// A refusal, with its number and its place, as the answer.
+pub fn refuse<T>(number: u32, place: u32) -> Result<T, Refusal>
+    ensures refused { result ≡ Err (record { number = number; place = place }) }
 {
-    x as u64
+    Err(Refusal { number, place })
 }
 
-// An end or an entry, in 32 bits.
-pub fn number_of(x: u16) -> u32
-    ensures same { (result ≡ x) × (result < 65536) }
+// What a list says at i, or `beyond` behind its end.
+pub fn at<T: Copy>(list: &[T], i: usize, beyond: T) -> T
+    ensures read { result ≡ get_or list.now i beyond }
 {
-    x as u32
+    if i < list.len() { list[i] } else { beyond }
 }
 
-// The lesser of two counts.
-pub fn lesser(x: usize, y: usize) -> usize
-    ensures least { result ≡ min x y }
+// x becomes entry i of a list, if it has one.
+pub fn put<T: Copy>(list: &mut [T], i: usize, x: T)
+    ensures put { list.new ≡ set list.old i x }
 {
-    if x < y { x } else { y }
+    if i < list.len() {
+        list[i] = x;
+    }
 }

@@ -10,24 +10,28 @@ use lib.Dec.{ltb}
 use lib.ListN.{length, get_or, drop, take, set, length-append, length-set}
 use lib.Seq.{length-take-le, take-suc-set, drop-set-lt, drop-drop, set_split}
 use borrow.Author.Tests.{ltb-true, ltb-false}
+use Rattle.std.specs.Prelude.{Result, Ok, Err}
 use Rattle.net.specs.Refusals.{refusal}
 use Rattle.numbers.specs.Numbers.{most_numbers, groups, written, refused, groups_at, number}
 use Rattle.numbers.specs.Putting.{onto}
 use Rattle.numbers.specs.Answers.{numbered_of}
-use Rattle.numbers.specs.declared.Numbered.TheVariants.{Number, Refused}
+use Rattle.numbers.specs.declared.Number.{Number}
+use Rattle.numbers.specs.declared.Misread.{Misread}
 use Rattle.numbers.proofs.Groups.{unit_of, at_end, at_more, at_zero, at_last, groups_last, groups_more}
 
--- READING A NUMBER. k groups were read, which make up `low`; the next stands at i, where 1 counts for `unit`
-pub record SoFar (bytes : List ℕ) (at low unit i k : ℕ) : Type 0 where
+-- READING A NUMBER. k groups were read, which make up `low`; the next stands at at + k, where 1 counts for `unit`
+pub record SoFar (bytes : List ℕ) (at low unit k : ℕ) : Type 0 where
   pub few : k ≤ 4
   pub scale : unit ≡ unit_of k
   pub under : low < unit
-  pub begun : at ≤ i
-  pub same : number bytes at ≡ groups_at bytes at (4 - k) unit low i
+  pub place : at + k < 18446744073709551616
+  pub same : number bytes at ≡ groups_at bytes at (4 - k) unit low (at + k)
 
-pub begin : (bytes : List ℕ) (at : ℕ) → SoFar bytes at 0 1 at 0
+pub begin : (bytes : List ℕ) (at : ℕ) → at < 18446744073709551616 → SoFar bytes at 0 1 0
 unfolding number
-begin bytes at = record { few = omega arith; scale = refl; under = omega arith; begun = omega arith; same = refl }
+begin bytes at h =
+    let z : at ≡ at + 0 = omega arith in
+    record { few = omega arith; scale = refl; under = omega arith; place = omega arith; same = ap (λ (i : ℕ). groups_at bytes at 4 1 0 i) z }
 
 unit_most : (k : ℕ) → k < 4 → unit_of k ≤ 2097152
 unit_most zero h = omega arith
@@ -40,17 +44,18 @@ full' : (bytes : List ℕ) (at unit low i : ℕ) → groups_at bytes at 0 unit l
 unfolding groups_at
 full' bytes at unit low i = refl
 
-module _ {bytes : List ℕ} {at low unit i k : ℕ} (s : SoFar bytes at low unit i k) where
+module _ {bytes : List ℕ} {at low unit k : ℕ} (s : SoFar bytes at low unit k) where
+  -- an answer of the code is what the definitions read
+  abbrev Right : Result Number Misread → Type 0
+  Right r = r ≡ numbered_of (number bytes at)
+
   -- four groups, and the last says that more follow
-  pub full : 4 ≤ k → Refused 11 at ≡ numbered_of (number bytes at)
-  full h = let z : 4 - k ≡ 0 = omega arith in let e = s.same in ap numbered_of (sym (rw z at e ∙ full' bytes at unit low i))
+  pub full : 4 ≤ k → Right (Err (record { number = 11; place = at }))
+  full h = let z : 4 - k ≡ 0 = omega arith in let e = s.same in ap numbered_of (sym (rw z at e ∙ full' bytes at unit low (at + k)))
 
   module _ (h : k < 4) where
-    left : 4 - k ≡ suc (4 - (k + 1))
-    left = omega arith
-
-    same' : number bytes at ≡ groups_at bytes at (suc (4 - (k + 1))) unit low i
-    same' = s.same ∙ rw left
+    same' : number bytes at ≡ groups_at bytes at (suc (4 - (k + 1))) unit low (at + k)
+    same' = let left : 4 - k ≡ suc (4 - (k + 1)) = omega arith in s.same ∙ rw left
 
     -- what a group adds fits
     pub unit_few : unit ≤ 2097152
@@ -59,26 +64,28 @@ module _ {bytes : List ℕ} {at low unit i k : ℕ} (s : SoFar bytes at low unit
     pub adds : (x : ℕ) → x < 128 → unit * x ≤ 2097152 * 127
     adds x l = mul-le-mul {n₂ = 2097152} {m₂ = 127} unit_few (omega arith)
 
-    pub ten : length bytes ≤ i → Refused 10 at ≡ numbered_of (number bytes at)
-    ten l = ap numbered_of (sym (same' ∙ at_end bytes at _ unit low i l))
+    pub ten : length bytes ≤ at + k → Right (Err (record { number = 10; place = at }))
+    ten l = ap numbered_of (sym (same' ∙ at_end bytes at _ unit low (at + k) l))
 
-    module _ (b : ℕ) (is : b ≡ get_or bytes i 0) (there : i < length bytes) where
-      pub nought : b ≡ 0 → at < i → Refused 11 at ≡ numbered_of (number bytes at)
-      nought z l = ap numbered_of (sym (same' ∙ at_zero bytes at _ unit low i there (sym is ∙ z) l))
+    module _ (b : ℕ) (is : b ≡ get_or bytes (at + k) 0) (there : at + k < length bytes) where
+      pub nought : b ≡ 0 → at < at + k → Right (Err (record { number = 11; place = at }))
+      nought z l = ap numbered_of (sym (same' ∙ at_zero bytes at _ unit low (at + k) there (sym is ∙ z) l))
 
-      pub found : b < 128 → (at < i → 1 ≤ b) → Number (low + unit * b) (i + 1) ≡ numbered_of (number bytes at)
-      found l some = rw is (ap numbered_of (sym (same' ∙ at_last bytes at _ unit low i there (rw is at l) (rw is at some))))
+      pub found : b < 128 → (at < at + k → 1 ≤ b) → Right (Ok (record { value = low + unit * b; next = at + k + 1 }))
+      found l some = rw is (ap numbered_of (sym (same' ∙ at_last bytes at _ unit low (at + k) there (rw is at l) (rw is at some))))
 
-      pub more : 128 ≤ b → b < 256 → SoFar bytes at (low + unit * (b - 128)) (128 * unit) (i + 1) (k + 1)
-      more l m =
+      pub more : 128 ≤ b → b < 256 → at + k < 18446744073709551615 → SoFar bytes at (low + unit * (b - 128)) (unit * 128) (k + 1)
+      more l m p =
           let u = mul-le-mul_left {m = b - 128} {n = 127} unit (omega arith) in
           let e = s.scale in let v = s.under in
+          let w : unit * 128 ≡ 128 * unit = omega arith in
+          let z : at + k + 1 ≡ at + (k + 1) = omega arith in
           record {
             few = omega arith;
-            scale = rw add-one (ap (λ (x : ℕ). 128 * x) e);
+            scale = rw (w, add-one) (ap (λ (x : ℕ). 128 * x) e);
             under = omega arith;
-            begun = let g = s.begun in omega arith;
-            same = rw is (same' ∙ at_more bytes at _ unit low i there (rw is at l));
+            place = omega arith;
+            same = rw (is, w, ← z) (same' ∙ at_more bytes at _ unit low (at + k) there (rw is at l));
           }
 
 -- HOW MANY BYTES A NUMBER TAKES

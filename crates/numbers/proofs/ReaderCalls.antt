@@ -26,12 +26,14 @@ use denote.Laws.{Is, Typed}
 use denote.Ref.{Bor}
 use denote.Steps.{owned}
 use denote.Struct.Laws as LL
+use Rattle.std.specs.Prelude.{Result}
 use Rattle.by_hand.proofs.Types as Types
 use Rattle.by_hand.proofs.Thin.{Over}
 use Rattle.by_hand.proofs.Held.{Known, known, asks, carries, of_data, own_of}
 use Rattle.numbers.specs.Numbers.{number}
 use Rattle.numbers.specs.Answers.{numbered_of, behind_of}
-use Rattle.numbers.specs.declared.Numbered.{Numbered}
+use Rattle.numbers.specs.declared.Number.{Number}
+use Rattle.numbers.specs.declared.Misread.{Misread}
 use Rattle.numbers.specs.declared.reader.Reader.{Reader}
 use Rattle.numbers.proofs.Readers.{numbered, bytes, reader, reader_twice}
 use Rattle.numbers.specs.contracts.reader.Reader as T
@@ -53,7 +55,7 @@ use Rattle.numbers.proofs.reader.moved.Met as moved-thm
 abbrev pub reader_at : Bor (List ℕ) → ℕ → Reader
 reader_at s i = record { bytes = s; at = i }
 
-abbrev pub number_of : Reader → Numbered
+abbrev pub number_of : Reader → Result Number Misread
 number_of r = numbered_of (number r.bytes.now r.at)
 
 -- a reader can be stored in a local
@@ -106,7 +108,7 @@ module _ {M : Type 1} {𝓤 : Ura M} (𝓛 : Logic 𝓤) {𝓜 : Model 𝓤 𝓛
           owned t (Types.usize).row (Is (Types.usize).row) ((Types.usize).makes 𝓛) i _ (refl, fits) $ move t (1 ∷ 2 ∷ 0 ∷ []) $
           carries t (Over 𝓛 𝓜 𝓡 𝓡.env) (to_moved p) κs qs (r, (i, tt)) tt (id⊢ 𝓤 _) os (reader_at r.bytes i) (λ r' ws. id⊢ 𝓤 _) (λ is. move t (1 ∷ 0 ∷ []) $ k (stored 𝓛 κs (reader_at r.bytes i) is))
 
-    pub goes_on : K → (n : Numbered) → Is numbered.row n (numbered.val n ∷ []) → (p : Wired 𝓡.env behind-def.code) → Opds K 𝓛 (asks (to_behind p) tt tt (n, tt) tt ∷ Γ) E xs (numbered.val n ∷ [])
+    pub goes_on : K → (n : Result Number Misread) → Is numbered.row n (numbered.val n ∷ []) → (p : Wired 𝓡.env behind-def.code) → Opds K 𝓛 (asks (to_behind p) tt tt (n, tt) tt ∷ Γ) E xs (numbered.val n ∷ [])
         → (behind_of n < 2 ^ 64 → Seq K 𝓛 Γ (lands (Over 𝓛 𝓜 𝓡 𝓡.env).C (Over 𝓛 𝓜 𝓡 𝓡.env).Λ E d (vint w64 (behind_of n)) rest q))
         → Seq K 𝓛 Γ (runs (Over 𝓛 𝓜 𝓡 𝓡.env).C (Over 𝓛 𝓜 𝓡 𝓡.env).Λ E (seq (call behind-def.name xs d) rest) q)
     goes_on t n here p os k =

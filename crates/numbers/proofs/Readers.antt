@@ -22,13 +22,21 @@ use denote.Struct.Rest.{all_own, field_own, rest, own_open, own_out, own_shut}
 use Rattle.by_hand.proofs.Params.{Data, enum}
 use Rattle.by_hand.proofs.Held.{Held, slice, struct, own_of}
 use Rattle.numbers.specs.declared.reader.Reader.{Reader}
-use Rattle.numbers.specs.contracts.Numbered as Numbered
-use Rattle.numbers.proofs.Numbered.TheLaws as Numbered'
+use Rattle.numbers.specs.contracts.Number as Number
+use Rattle.numbers.proofs.Number.TheLaws as Number'
+use Rattle.numbers.specs.contracts.Misread as Misread
+use Rattle.numbers.proofs.Misread.TheLaws as Misread'
+use Rattle.std.specs.contracts.result.Result as Result
+use Rattle.std.proofs.result.Result.TheLaws as Result'
 use Rattle.numbers.specs.contracts.reader.Reader as T
 use Rattle.numbers.proofs.reader.Reader.TheLaws as T'
 
+-- a `Result` of a number or a refusal
 abbrev pub numbered : Data
-numbered = enum Numbered.the_type tt Numbered'.the_laws Numbered'.the_copy Numbered'.the_plain
+numbered =
+    let N = Number.the_row in let M = Misread.the_row in let n = Number'.the_row_laws in let m = Misread'.the_row_laws in
+    enum (Result.the_type N M) tt (Result'.the_laws N M n m Number'.the_told Misread'.the_told)
+    (Result'.the_copy N M n m Number'.the_row_copy Misread'.the_row_copy) (Result'.the_plain N M Number'.the_row_plain Misread'.the_row_plain)
 
 abbrev pub bytes : Held 1
 bytes = slice 0 tt u8

@@ -8,7 +8,7 @@
 
 pub mod reader;
 
-ghost use Rattle.std.specs.Prelude.{◌≡◌, ◌+◌, ◌%◌, ◌<◌, ◌≤◌, length};
+ghost use Rattle.std.specs.Prelude.{◌≡◌, ◌+◌, ◌<◌, ◌≤◌, length};
 ghost use Rattle.numbers.specs.Numbers.{number, written, most_numbers};
 ghost use denote.Ref.{at_last};
 ghost use Rattle.numbers.specs.Putting.{onto, put, part_of, Fits};
@@ -17,58 +17,47 @@ ghost use Rattle.numbers.specs.Answers.{numbered_of};
 // The largest number of four groups.
 const MOST_NUMBER: u32 = 268435455;
 
-// What is read at a place: a number and the place after it, or 10 or 11 and the place of the number's first byte.
-#[derive(Clone, Copy)]
-pub enum Numbered {
-    Number { value: u32, next: usize },
-    Refused { number: u32, place: usize },
+// A number, and the place after it.
+#[derive(Clone, Copy, PartialEq, Eq)]
+pub struct Number {
+    pub value: u32,
+    pub next: usize,
 }
 
-// A byte as a number.
-fn wide(x: u8) -> u32
-    ensures { (result ≡ x) × (result < 256) }
-{
-    x as u32
-}
-
-// Document 01's number of a refusal, and its place.
-fn refused(number: u32, place: usize) -> Numbered
-    ensures { result ≡ Numbered.Refused number place }
-{
-    Numbered::Refused { number, place }
+// No number: document 01's number of the refusal, 10 or 11, and the place of the number's first byte. Not net's
+// Refusal, whose place has 32 bits: these bytes may be more, and `reading` narrows the place where they aren't.
+#[derive(Clone, Copy, PartialEq, Eq)]
+pub struct Misread {
+    pub number: u32,
+    pub place: usize,
 }
 
 // The number that begins at `at`: 10 where the bytes end before it or inside it, 11 where its last group is zero or a
 // fourth says that more follow.
-pub fn number_at(bytes: &[u8], at: usize) -> Numbered
+pub fn number_at(bytes: &[u8], at: usize) -> Result<Number, Misread>
     ensures read { result ≡ numbered_of (number bytes.now at) }
 {
-    let mut low: u32 = 0;
-    let mut unit: u32 = 1;
-    let mut i = at;
-    let mut k: u32 = 0;
-    while k < 4 {
+    let place = at;
+    let mut low = 0;
+    let mut unit = 1;
+    for k in 0..4 {
+        let i = at + k;
         if bytes.len() <= i {
-            return refused(10, at);
+            return Err(Misread { number: 10, place });
         }
-        let b = wide(bytes[i]);
-        let next = i + 1;
+        let b = u32::from(bytes[i]);
         if b < 128 {
+            if b == 0 && at < i {
+                return Err(Misread { number: 11, place });
+            }
             let value = low + unit * b;
-            if b != 0 {
-                return Numbered::Number { value, next };
-            }
-            if at < i {
-                return refused(11, at);
-            }
-            return Numbered::Number { value, next };
+            let next = i + 1;
+            return Ok(Number { value, next });
         }
         low += unit * (b - 128);
-        unit = 128 * unit;
-        i = next;
-        k += 1;
+        unit *= 128;
     }
-    refused(11, at)
+    Err(Misread { number: 11, place })
 }
 
 // How many bytes a number takes.
@@ -87,14 +76,8 @@ pub fn number_size(n: u32) -> usize
     4
 }
 
-// The lowest seven bits of a number, as a group that others follow.
-fn more(rest: u32) -> u8
-    ensures { result ≡ 128 + rest % 128 }
-{
-    (128 + rest % 128) as u8
-}
-
-// Writes a number from the first byte of `room` on: how many bytes it took. What stands behind them is unchanged.
+// Writes a number from the first byte of `room` on: how many bytes it took. What stands behind them is unchanged. k is
+// counted here: only the last group says how many there are.
 fn fill_number(room: &mut [u8], n: u32) -> usize
     requires { (n < most_numbers) × (length (written n) ≤ length room.old) }
     ensures { (result ≡ length (written n)) × (room.new ≡ onto (written n) room.old) }
@@ -102,7 +85,7 @@ fn fill_number(room: &mut [u8], n: u32) -> usize
     let mut rest = n;
     let mut k = 0;
     while 128 <= rest {
-        room[k] = more(rest);
+        room[k] = (128 + rest % 128) as u8;
         rest /= 128;
         k += 1;
     }
@@ -112,7 +95,8 @@ fn fill_number(room: &mut [u8], n: u32) -> usize
 
 // Writes a number from the first byte of `room` on, and hands back the part that it wrote: the number's bytes. Where
 // the number has more than four groups or the room is too short, nothing is written and the part is empty. Where the
-// room is as long as the number, the part is the room itself, so that its lender knows every byte afterwards.
+// room is as long as the number, the part is the room itself, so that its lender knows every byte afterwards. An empty
+// part and no Option: its `handed` says that it "hands back the part it wrote" (document 01).
 pub fn put_number<'a>(room: &'a mut [u8], n: u32) -> &'a mut [u8]
     ensures handed { (result.now ≡ part_of n room.old)
         × (Fits n room.old → result ≡ at_last room.entry (written n)) }

@@ -1,11 +1,10 @@
 // "The reader carries the lent record and its place in it from number to number." A number is read at its place by
-// `number_at`; a caller that has the bytes alone calls a function with plain parameters above these, as `reading` does
-// for the head.
+// `number_at`. These stay functions beside the struct, and no methods: the theorems of `promises` name them here.
 ghost use Rattle.std.specs.Prelude.{◌≡◌};
 ghost use Rattle.numbers.specs.Numbers.{number};
 ghost use Rattle.numbers.specs.Answers.{numbered_of, behind_of};
 
-use crate::{Numbered, number_at};
+use crate::{Misread, Number, number_at};
 
 // The lent record, and a place in it.
 #[derive(Clone, Copy)]
@@ -15,12 +14,12 @@ pub struct Reader<'a> {
 }
 
 // Where a reader goes on: the place after a number; where it was refused, it stays at its place.
-pub fn behind(n: Numbered) -> usize
+pub fn behind(n: Result<Number, Misread>) -> usize
     ensures placed { result ≡ behind_of n }
 {
     match n {
-        Numbered::Number { value: _, next } => next,
-        Numbered::Refused { number: _, place } => place,
+        Ok(read) => read.next,
+        Err(misread) => misread.place,
     }
 }
 
@@ -32,7 +31,7 @@ pub fn new<'a>(bytes: &'a [u8]) -> Reader<'a>
 }
 
 // The number at the reader's place, or 10 or 11.
-pub fn number<'a>(r: Reader<'a>) -> Numbered
+pub fn number<'a>(r: Reader<'a>) -> Result<Number, Misread>
     ensures read { result ≡ numbered_of (number r.entry.bytes.now r.entry.at) }
 {
     number_at(r.bytes, r.at)
@@ -42,5 +41,5 @@ pub fn number<'a>(r: Reader<'a>) -> Numbered
 pub fn moved<'a>(r: Reader<'a>, at: usize) -> Reader<'a>
     ensures moved { result ≡ record { bytes = r.entry.bytes; at = at } }
 {
-    Reader { bytes: r.bytes, at }
+    Reader { at, ..r }
 }

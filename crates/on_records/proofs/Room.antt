@@ -12,13 +12,12 @@ use Rattle.net.specs.declared.Refusal.{Refusal}
 use Rattle.numbers.specs.Numbers.{Bytes, Got, got, refused}
 use Rattle.reading.specs.Reading.{Heading, heading, rest_read, net_read}
 use Rattle.numbers.specs.Putting.{onto}
-use Rattle.writing.specs.declared.WriteAnswer.{WriteAnswer}
-use Rattle.writing.specs.declared.WriteAnswer.TheVariants.{Written}
 use Rattle.writing.proofs.Lines.{head_sound}
 use Rattle.reading.proofs.Passes.{rest_head, rest_by, net_stops, net_rest}
 use Rattle.reading.proofs.RoundTrip.{sound_of_read}
 use Rattle.reading.proofs.Outcomes.{read_writes}
 use Rattle.on_records.specs.Asked.{record_read, rewrite_of, room_of, Rewrites}
+use Rattle.std.specs.Prelude.{Result, Ok}
 
 -- more places than a net may have segments, and for more ratios than it may have posts, change nothing
 module _ (bytes : List ℕ) (room ratioRoom : ℕ) (long : most_segments ≤ room) (many : most_posts ≤ ratioRoom) where
@@ -47,8 +46,8 @@ unfolding record_read
 ratios_enough bytes {n} {next} e = (sound_of_read bytes most_segments most_posts n next e).ratios_enough
 
 -- a good record that is written again into a room that is long enough
-pub rewrite_same : (bytes room : List ℕ) {n : Net} {next : ℕ} {r : WriteAnswer} {x : List ℕ} → Bytes bytes → record_read bytes ≡ got n next → length bytes ≤ length room
-    → Rewrites bytes room r x → (r ≡ Written (length bytes)) × (x ≡ onto bytes room)
+pub rewrite_same : (bytes room : List ℕ) {n : Net} {next : ℕ} {r : Result ℕ Refusal} {x : List ℕ} → Bytes bytes → record_read bytes ≡ got n next → length bytes ≤ length room
+    → Rewrites bytes room r x → (r ≡ Ok (length bytes)) × (x ≡ onto bytes room)
 unfolding record_read
 rewrite_same bytes room {n} {next} all e long w =
     let q = read_writes bytes most_segments most_posts n next most_posts room all e (ratios_enough bytes e) long in

@@ -1,4 +1,4 @@
--- What the answers say in document 01's terms: `says_planned` for each case of the code's enum (those of the other enums
+-- What the answers say in document 01's terms: `says_planned` for what planning answers (those of the other answers
 -- stand in writing, margins and net), and beside it what is to be said of a record. Relies on `Asked`; proofs/Unique
 -- joins the two.
 use Rattle.std.proofs.Math.Option.{Option, none, some}
@@ -7,33 +7,23 @@ use Rattle.net.specs.Net.{Net, every, most_posts}
 use Rattle.net.specs.Refusals.{Lent}
 use Rattle.net.specs.Building.{BuildAnswer, built, refused, build_of}
 use Rattle.net.specs.declared.Head.{Head}
-use Rattle.net.specs.declared.Measured.{Measured}
+use Rattle.building.specs.Answers.{measures}
 use Rattle.net.specs.declared.Refusal.{Refusal}
 use Rattle.numbers.specs.Numbers.{Got, got, refused as unread}
 use Rattle.writing.specs.Writing.{net_written, write_refusal}
 use Rattle.writing.specs.Answers.{Said, result, refusal_of, said_size}
-use Rattle.on_records.specs.declared.PlanAnswer.{PlanAnswer}
-use Rattle.on_records.specs.declared.PlanAnswer.TheVariants.{Planned, Refused}
+use Rattle.net.specs.declared.Plan.{Plan}
+use Rattle.std.specs.Prelude.{Result, Ok, Err}
 
--- "posts, segments, source, ratio", and "length and radius of each tree and the count of laid paths"
-pub record Plan : Type 0 where
-  pub head : Head
-  pub count : ℕ
-  pub lightest : Measured
-  pub shortest : Measured
-  pub between : Measured
-  pub laid : ℕ
-
+-- "posts, segments, source, ratio", and "length and radius of each tree and the count of laid paths", are net's `Plan`.
 -- "An answer is either a result or a refusal with its number and its place."
-abbrev pub says_planned : PlanAnswer → Said Plan
-says_planned (Planned h m l s b k) = result
-    (record { head = h; count = m; lightest = l; shortest = s; between = b; laid = k })
-says_planned (Refused r) = refusal_of r
+abbrev pub says_planned : Result Plan Refusal → Said Plan
+says_planned (Ok x) = result x
+says_planned (Err r) = refusal_of r
 
 -- what building answers, with a head and a number of segments
 abbrev pub built_said : Head → ℕ → BuildAnswer → Said Plan
-built_said h m (built l s b k) = result
-    (record { head = h; count = m; lightest = l; shortest = s; between = b; laid = k })
+built_said h m (built l s b k) = result (record { head = h; count = m; built = measures l s b k })
 built_said h m (refused r) = refusal_of r
 
 -- WHAT IS TO BE SAID of a record: reading's refusal, or what building answers of the net that was read

@@ -7,7 +7,6 @@ use Prim.Native.Nat.{ℕ, ◌≤◌, min}
 use native.Mathlib.Omega.{arith}
 use lib.ListN.{length, take, drop, length-take}
 use Rattle.net.specs.Net.{Ratio, Net, most_posts, own_of, ratios_of, segments_of}
-use Rattle.net.specs.declared.Head.{Head}
 use Rattle.net.specs.declared.Segment.{Segment}
 use Rattle.net.proofs.Own.{ratios_count}
 use Rattle.crossings.specs.Lists.{fitting, laid, PutOut}
@@ -15,24 +14,29 @@ use Rattle.crossings.proofs.Lists.{take_segments}
 use Rattle.numbers.specs.Numbers.{Got, got, refused}
 use Rattle.reading.specs.Reading.{net_read}
 use Rattle.reading.specs.Answers.{laid_in, ratios_read, ReadIn}
-use Rattle.reading.specs.declared.ReadAnswer.{ReadAnswer}
-use Rattle.reading.specs.declared.ReadAnswer.TheVariants.{Read}
 use Rattle.reading.proofs.RoundTrip.{sound_of_read}
 use Rattle.on_segments.specs.Reading.{read_answer, the_count_of, PostsWithin, laid_by, list_read, ReadsFront, read_into, Reads}
+use Rattle.net.specs.declared.Counted.{Counted}
+use Rattle.net.specs.declared.Refusal.{Refusal}
+use Rattle.std.specs.Prelude.{Result, Ok, Err}
 
 -- as many ratios are lent as both lists go
 ratio_room : (p q : List ℕ) {k : ℕ} → k ≡ min (length p) (length q) → k ≡ length (ratios_of p q)
 ratio_room p q e = e ∙ sym (ratios_count p q)
 
 -- of an answer that is known to be a net
-pub within_read : {v : ReadAnswer} {h : Head} {n k : ℕ} → v ≡ Read h n → PostsWithin v k → h.posts ≤ k
-within_read {k = k} e w = subst (λ (r : ReadAnswer). PostsWithin r k) e w
+pub within_read : {v : Result Counted Refusal} {c : Counted} {k : ℕ} → v ≡ Ok c → PostsWithin v k → c.head.posts ≤ k
+within_read {k = k} e w = subst (λ (r : Result Counted Refusal). PostsWithin r k) e w
 
-pub laid_read : {v : ReadAnswer} {h : Head} {n : ℕ} (f : Ratio → ℕ) (ratios : List Ratio) (d : List ℕ) {d' : List ℕ} → v ≡ Read h n → d' ≡ laid_in h.form f h.source (own_of h ratios) d → d' ≡ laid_by v f ratios d
-laid_read f ratios d e k = k ∙ sym (ap (λ (r : ReadAnswer). laid_by r f ratios d) e)
+pub laid_read : {v : Result Counted Refusal} {c : Counted} (f : Ratio → ℕ) (ratios : List Ratio) (d : List ℕ) {d' : List ℕ} → v ≡ Ok c → d' ≡ laid_in c.head.form f c.head.source (own_of c.head ratios) d → d' ≡ laid_by v f ratios d
+laid_read f ratios d e k = k ∙ sym (ap (λ (r : Result Counted Refusal). laid_by r f ratios d) e)
+
+-- and of a refusal
+pub laid_kept : {v : Result Counted Refusal} {e : Refusal} (f : Ratio → ℕ) (ratios : List Ratio) (d : List ℕ) → v ≡ Err e → d ≡ laid_by v f ratios d
+laid_kept f ratios d e = sym (ap (λ (r : Result Counted Refusal). laid_by r f ratios d) e)
 
 -- READING INTO LISTS TO WORK IN
-module _ (bytes p q : List ℕ) (room : ℕ) {k : ℕ} (enough : k ≡ min (length p) (length q)) {r : ReadAnswer} {x y a b c : List ℕ} (i : ReadIn (net_read bytes room k 0) r x y a b c) where
+module _ (bytes p q : List ℕ) (room : ℕ) {k : ℕ} (enough : k ≡ min (length p) (length q)) {r : Result Counted Refusal} {x y a b c : List ℕ} (i : ReadIn (net_read bytes room k 0) r x y a b c) where
   -- a net that was read has no more posts than a net may have, nor than ratios are lent
   within_by : (g : Got Net) → net_read bytes room k 0 ≡ g → r ≡ read_answer g → (n : ℕ) → (n ≡ most_posts) ⊎ (k ≤ n) → PostsWithin r n
   within_by (got net next) e f n (inl l) = let s = (sound_of_read bytes room k net next e).sound.head_sound.posts_sound.few_posts in rw f (omega (arith, s, l))
@@ -60,7 +64,7 @@ module _ (bytes p q : List ℕ) (room : ℕ) {k : ℕ} (enough : k ≡ min (leng
       })
 
 -- READING INTO A LENT LIST
-module _ (bytes p q : List ℕ) (l : List Segment) {r : ReadAnswer} {p' q' a b c : List ℕ} (i : ReadsFront (read_into bytes p q l) p q r p' q' a b c) {n : ℕ} (en : n ≡ the_count_of r) {l' : List Segment} (el : PutOut n (segments_of a b c) l l') where
+module _ (bytes p q : List ℕ) (l : List Segment) {r : Result Counted Refusal} {p' q' a b c : List ℕ} (i : ReadsFront (read_into bytes p q l) p q r p' q' a b c) {n : ℕ} (en : n ≡ the_count_of r) {l' : List Segment} (el : PutOut n (segments_of a b c) l l') where
   -- a net that was read has no more segments than there is room for
   put_by : (g : Got Net) → read_into bytes p q l ≡ g → r ≡ read_answer g → l' ≡ list_read g l
   put_by (got net next) is f =

@@ -1,3 +1,2 @@
 -- What the contracts over lent lists cite. Definitions only.
 pub mod Reading
-pub mod Taking

@@ -6,30 +6,31 @@ use Rattle.net.specs.declared.Segment.{Segment}
 use Rattle.numbers.specs.Numbers.{Got, got, refused}
 use Rattle.reading.specs.Reading.{net_read}
 use Rattle.reading.specs.Answers.{laid_in, ratios_read}
-use Rattle.reading.specs.declared.ReadAnswer.{ReadAnswer}
-use Rattle.reading.specs.declared.ReadAnswer.TheVariants.{Read, Refused}
 -- the head of the net that was read and how many segments it has, or the refusal
 pub use Rattle.reading.specs.Answers.{read_answer}
+use Rattle.net.specs.declared.Counted.{Counted}
+use Rattle.net.specs.declared.Refusal.{Refusal}
+use Rattle.std.specs.Prelude.{Result, Ok, Err}
 
 -- how many segments an answer says were read
-abbrev pub the_count_of : ReadAnswer → ℕ
-the_count_of (Read h n) = n
-the_count_of (Refused r) = 0
+abbrev pub the_count_of : Result Counted Refusal → ℕ
+the_count_of (Ok c) = c.count
+the_count_of (Err r) = 0
 
 -- the posts of the net that an answer says was read are at most k
-abbrev pub PostsWithin : ReadAnswer → ℕ → Type 0
-PostsWithin (Read h n) k = h.posts ≤ k
-PostsWithin (Refused r) k = Unit {0}
+abbrev pub PostsWithin : Result Counted Refusal → ℕ → Type 0
+PostsWithin (Ok c) k = c.head.posts ≤ k
+PostsWithin (Err r) k = Unit {0}
 
 -- a lent list of the posts' numbers after an answer, where the ratios that were read stand side by side: one number of
 -- each post's own, as reading's `laid_in` has them; after a refusal "what it held before"
-abbrev pub laid_by : ReadAnswer → (Ratio → ℕ) → List Ratio → List ℕ → List ℕ
-laid_by (Read h n) f ratios l = laid_in h.form f h.source (own_of h ratios) l
-laid_by (Refused r) f ratios l = l
+abbrev pub laid_by : Result Counted Refusal → (Ratio → ℕ) → List Ratio → List ℕ → List ℕ
+laid_by (Ok c) f ratios l = laid_in c.head.form f c.head.source (own_of c.head ratios) l
+laid_by (Err r) f ratios l = l
 
 -- INTO LISTS TO WORK IN: where reading gives g, the answer r, what p and q hold then, and three lists that begin with
 -- the segments of the net; after a refusal nothing is said of these three
-pub record ReadsFront (g : Got Net) (p q : List ℕ) (r : ReadAnswer) (p' q' a b c : List ℕ) : Type 0 where
+pub record ReadsFront (g : Got Net) (p q : List ℕ) (r : Result Counted Refusal) (p' q' a b c : List ℕ) : Type 0 where
   pub answers : r ≡ read_answer g
   pub p_is : p' ≡ ratios_read (λ o. o.p) g p
   pub q_is : q' ≡ ratios_read (λ o. o.q) g q
@@ -49,7 +50,7 @@ abbrev pub read_into : List ℕ → List ℕ → List ℕ → List Segment → G
 read_into bytes p q l = net_read bytes (length l) (length (ratios_of p q)) 0
 
 -- READING. Of the bytes of a record, and of lists that held p, q and l: the answer r, and what the lists hold then
-pub record Reads (bytes p q : List ℕ) (l : List Segment) (r : ReadAnswer) (p' q' : List ℕ) (l' : List Segment) : Type 0
+pub record Reads (bytes p q : List ℕ) (l : List Segment) (r : Result Counted Refusal) (p' q' : List ℕ) (l' : List Segment) : Type 0
   where
     pub answers : r ≡ read_answer (read_into bytes p q l)
     pub p_is : p' ≡ ratios_read (λ o. o.p) (read_into bytes p q l) p

@@ -5,245 +5,184 @@
 // segments that is too long is refused with 4.
 #![tactic(auto)]
 
-ghost use Rattle.std.specs.Prelude.{◌≡◌, length, replicate};
-ghost use Rattle.crossings.specs.Lists.{net_on, Places};
-ghost use Rattle.net.specs.Net.{every, most_segments, ratios_of};
-ghost use Rattle.net.specs.Ready.{ratios_by, ratio_count_by};
+ghost use Rattle.std.specs.Prelude.{◌≡◌, length};
+ghost use Rattle.crossings.specs.Lists.{net_on, TakenIn};
+ghost use Rattle.net.specs.Net.{every, ratios_of};
+ghost use Rattle.net.specs.Ready.{ratio_count_in, net_in};
 ghost use Rattle.net.specs.Building.{margin_of};
 ghost use Rattle.building.specs.Answers.{Leaves};
 ghost use Rattle.margins.specs.Answers.{margin_answer_of};
 ghost use Rattle.writing.specs.Answers.{Writes};
 ghost use Rattle.reading.specs.Reading.{net_read};
-ghost use Rattle.on_segments.specs.Reading.{the_count_of, PostsWithin, laid_by, ReadsFront, Reads};
-ghost use Rattle.on_segments.specs.Taking.{Taken, OfTakenBy};
+ghost use Rattle.on_segments.specs.Reading.{ReadsFront, Reads};
 
-use building::{Answer, build_sound};
+use building::build_sound;
 use crossings::{put_out, take_in};
-use margins::{MarginAnswer, margin_sound};
-use net::plain::lesser;
-use net::{Checked, Head, MOST_SEGMENTS, POST_PLACES, Segment, Tree};
-use reading::{ReadAnswer, lay_ratios, read_in};
-use writing::{WriteAnswer, write_sound};
+use margins::margin_sound;
+use net::{
+    Built, Counted, Head, MOST_SEGMENTS, NetLists, POST_PLACES, RatioLists, Refusal, Segment,
+    SegmentLists, SoundNet, Tree,
+};
+use reading::{lay_ratios, read_in};
+use writing::write_sound;
 
-// A list with a place for one end of each segment that a net may have.
-fn for_ends() -> [u16; MOST_SEGMENTS]
-    ensures { result ≡ replicate most_segments 0 }
-{
-    [0; MOST_SEGMENTS]
+// Three lists to work in: a place in each for every segment that a net may have. Not on_records' `Places`: the ratios
+// are lent here, and arrays for them would stand unused.
+#[derive(Drop)]
+struct Lists {
+    a: [u16; MOST_SEGMENTS],
+    b: [u16; MOST_SEGMENTS],
+    lengths: [u32; MOST_SEGMENTS],
 }
 
-// A list with a place for the length of each.
-fn for_lengths() -> [u32; MOST_SEGMENTS]
-    ensures { result ≡ replicate most_segments 0 }
-{
-    [0; MOST_SEGMENTS]
-}
+impl Lists {
+    // With nothing in them.
+    fn new() -> Lists {
+        Lists {
+            a: [0; MOST_SEGMENTS],
+            b: [0; MOST_SEGMENTS],
+            lengths: [0; MOST_SEGMENTS],
+        }
+    }
 
-// Building, behind the answer of 1 to 7: its refusal, or the net of the first m places of three lists.
-fn build_taken(
-    says: Checked,
-    head: Head,
-    p: &[u32],
-    q: &[u32],
-    m: usize,
-    a: &[u16],
-    b: &[u16],
-    lengths: &[u32],
-    lightest: &mut [u16],
-    shortest: &mut [u16],
-    between: &mut [u16],
-) -> Answer
-    requires { Taken says head p.now q.now m a.now b.now lengths.now }
-    ensures { OfTakenBy says head p.entry q.entry m a.entry b.entry lengths.entry
-        (λ n k. Leaves n m k lightest.old shortest.old between.old
-        result lightest.new shortest.new between.new) }
-{
-    match says {
-        Checked::Refused(x) => Answer::Refused(x),
-        Checked::Sound => build_sound(
-            head,
-            p,
-            q,
-            &a[..m],
-            &b[..m],
-            &lengths[..m],
-            lightest,
-            shortest,
-            between,
-        ),
+    // Takes a lent list in, or refuses it by 1 to 7.
+    fn take(&mut self, head: Head, own: RatioLists<'_>, list: &[Segment]) -> Result<(), Refusal>
+        ensures taken { TakenIn head own.entry.p.now own.entry.q.now list.now
+            result self.new.a self.new.b self.new.lengths }
+    {
+        take_in(head, own, list, &mut self.a, &mut self.b, &mut self.lengths)
+    }
+
+    // The net of a list that was taken in.
+    fn net<'a>(&'a self, head: Head, own: RatioLists<'a>, list: &[Segment]) -> SoundNet<'a>
+        requires { TakenIn head own.p.now own.q.now list.now
+            (Ok tt) self.now.a self.now.b self.now.lengths }
+        ensures net { net_in result.lists ≡ net_on head own.entry.p.now own.entry.q.now list.now }
+        ensures own { result.lists.own ≡ own.entry }
+    {
+        let m = list.len();
+        let segments = SegmentLists {
+            a: &self.a[..m],
+            b: &self.b[..m],
+            lengths: &self.lengths[..m],
+        };
+        SoundNet {
+            lists: NetLists {
+                head,
+                own,
+                segments,
+            },
+        }
     }
 }
 
 // Building: the trees' entries go into the three lent lists, and the answer has their lengths and radii and the count
-// of laid paths, or the refusal.
+// of laid paths, or the refusal. The three tree lists stay parameters: callers lend them so (document 01), and `Leaves`
+// speaks of each.
 pub fn build(
     head: Head,
-    p: &[u32],
-    q: &[u32],
+    own: RatioLists<'_>,
     segments: &[Segment],
     lightest: &mut [u16],
     shortest: &mut [u16],
     between: &mut [u16],
-) -> Answer
+) -> Result<Built, Refusal>
     ensures built { Leaves
-        (net_on head p.now q.now segments.now) (length segments.now)
-        (ratio_count_by p.entry q.entry) lightest.old shortest.old between.old
+        (net_on head own.entry.p.now own.entry.q.now segments.now) (length segments.now)
+        (ratio_count_in own.entry) lightest.old shortest.old between.old
         result lightest.new shortest.new between.new }
 {
-    let m = segments.len();
-    let mut a = for_ends();
-    let mut b = for_ends();
-    let mut lengths = for_lengths();
-    let says = take_in(head, p, q, segments, &mut a, &mut b, &mut lengths);
-    build_taken(
-        says, head, p, q, m, &a, &b, &lengths, lightest, shortest, between,
-    )
-}
-
-// The margin, behind the answer of 1 to 7.
-fn margin_taken(
-    says: Checked,
-    head: Head,
-    p: &[u32],
-    q: &[u32],
-    m: usize,
-    a: &[u16],
-    b: &[u16],
-    lengths: &[u32],
-    tree: Tree,
-    post: u32,
-) -> MarginAnswer
-    requires { Taken says head p.now q.now m a.now b.now lengths.now }
-    ensures { OfTakenBy says head p.entry q.entry m a.entry b.entry lengths.entry
-        (λ n k. result ≡ margin_answer_of (margin_of every n m k tree post)) }
-{
-    match says {
-        Checked::Refused(x) => MarginAnswer::Refused(x),
-        Checked::Sound => margin_sound(head, p, q, &a[..m], &b[..m], &lengths[..m], tree, post),
-    }
+    let mut lists = Lists::new();
+    lists.take(head, own, segments)?;
+    let net = lists.net(head, own, segments);
+    build_sound(net, lightest, shortest, between)
 }
 
 // The margin of a post in the named tree, worked out afresh, or the refusal. No list is lent but the ratios and the
 // segments.
 pub fn margin(
     head: Head,
-    p: &[u32],
-    q: &[u32],
+    own: RatioLists<'_>,
     segments: &[Segment],
     tree: Tree,
     post: u32,
-) -> MarginAnswer
+) -> Result<i64, Refusal>
     ensures answers { result ≡ margin_answer_of
-        (margin_of every (net_on head p.now q.now segments.now)
-        (length segments.now) (ratio_count_by p.entry q.entry) tree post) }
+        (margin_of every (net_on head own.entry.p.now own.entry.q.now segments.now)
+        (length segments.now) (ratio_count_in own.entry) tree post) }
 {
-    let m = segments.len();
-    let mut a = for_ends();
-    let mut b = for_ends();
-    let mut lengths = for_lengths();
-    let says = take_in(head, p, q, segments, &mut a, &mut b, &mut lengths);
-    margin_taken(says, head, p, q, m, &a, &b, &lengths, tree, post)
-}
-
-// Writing, behind the answer of 1 to 7.
-fn write_taken(
-    says: Checked,
-    head: Head,
-    p: &[u32],
-    q: &[u32],
-    m: usize,
-    a: &[u16],
-    b: &[u16],
-    lengths: &[u32],
-    room: &mut [u8],
-) -> WriteAnswer
-    requires { Taken says head p.now q.now m a.now b.now lengths.now }
-    ensures { OfTakenBy says head p.entry q.entry m a.entry b.entry lengths.entry
-        (λ n k. Writes n m k room.old result room.new) }
-{
-    match says {
-        Checked::Refused(x) => WriteAnswer::Refused(x),
-        Checked::Sound => write_sound(head, p, q, &a[..m], &b[..m], &lengths[..m], room),
-    }
+    let mut lists = Lists::new();
+    lists.take(head, own, segments)?;
+    margin_sound(lists.net(head, own, segments), tree, post)
 }
 
 // Writing: the record goes to the front of the room, and bytes beyond it are unchanged; after a refusal the whole room
 // is.
-pub fn write(head: Head, p: &[u32], q: &[u32], segments: &[Segment], room: &mut [u8]) -> WriteAnswer
-    ensures written { Writes (net_on head p.now q.now segments.now)
-        (length segments.now) (ratio_count_by p.entry q.entry)
+pub fn write(
+    head: Head,
+    own: RatioLists<'_>,
+    segments: &[Segment],
+    room: &mut [u8],
+) -> Result<u32, Refusal>
+    ensures written { Writes (net_on head own.entry.p.now own.entry.q.now segments.now)
+        (length segments.now) (ratio_count_in own.entry)
         room.old result room.new }
 {
-    let m = segments.len();
-    let mut a = for_ends();
-    let mut b = for_ends();
-    let mut lengths = for_lengths();
-    let says = take_in(head, p, q, segments, &mut a, &mut b, &mut lengths);
-    write_taken(says, head, p, q, m, &a, &b, &lengths, room)
+    let mut lists = Lists::new();
+    lists.take(head, own, segments)?;
+    write_sound(lists.net(head, own, segments), room)
 }
 
-// How many segments were read: none after a refusal.
-fn count_of(r: ReadAnswer) -> usize
-    ensures { result ≡ the_count_of r }
-{
-    match r {
-        ReadAnswer::Read { head, count } => count as usize,
-        ReadAnswer::Refused(x) => 0,
-    }
-}
-
-// Lays the posts' own ratios that were read, which stand in x and y, over two lent lists. After a refusal, and of a
-// record of the first form, these stay as they were.
-fn lay_read(answer: ReadAnswer, x: &[u32], y: &[u32], p: &mut [u32], q: &mut [u32])
-    requires { PostsWithin answer (length x.now) × PostsWithin answer (length y.now)
-        × PostsWithin answer (length p.old) × PostsWithin answer (length q.old) }
-    ensures p_laid { p.new ≡ laid_by answer (λ o. o.p)
-        (ratios_by x.entry y.entry) p.old }
-    ensures q_laid { q.new ≡ laid_by answer (λ o. o.q)
-        (ratios_by x.entry y.entry) q.old }
-{
-    if let ReadAnswer::Read { head, count: _ } = answer {
-        lay_ratios(head, x, y, p, q);
-    }
-}
-
-// Reads a record of at most `room` segments: those of a good one stand at the fronts of three lists to work in, and its
-// posts' own ratios are laid over p and q.
+// Reads a record of at most `room` segments: those of a good one stand at the fronts of the three lists, and its posts'
+// own ratios are laid over p and q. These stay parameters here and in `read`: callers lend them so (document 02), and
+// each is filled.
 fn read_front(
     bytes: &[u8],
     room: usize,
     p: &mut [u32],
     q: &mut [u32],
-    a: &mut [u16],
-    b: &mut [u16],
-    lengths: &mut [u32],
-) -> ReadAnswer
-    requires { Places a.old b.old lengths.old }
+    lists: &mut Lists,
+) -> Result<Counted, Refusal>
     ensures { ReadsFront (net_read bytes.now room (length (ratios_of p.old q.old)) 0)
         p.old q.old result p.new q.new
-        a.new b.new lengths.new }
+        lists.new.a lists.new.b lists.new.lengths }
 {
-    let ratios = lesser(p.len(), q.len());
+    let ratios = p.len().min(q.len());
     let mut x = [0u32; POST_PLACES];
     let mut y = [0u32; POST_PLACES];
-    let r = read_in(bytes, room, ratios, &mut x, &mut y, a, b, lengths);
-    lay_read(r, &x, &y, p, q);
-    r
+    let counted = read_in(
+        bytes,
+        room,
+        ratios,
+        &mut x,
+        &mut y,
+        &mut lists.a,
+        &mut lists.b,
+        &mut lists.lengths,
+    )?;
+    lay_ratios(counted.head, RatioLists { p: &x, q: &y }, p, q);
+    Ok(counted)
 }
 
 // Reading: the segments of a good record go to the front of the lent list, and in the second form the posts' own ratios
 // to their places of p and q; all other entries, the source's place among them, are unchanged, and after a refusal
 // every entry is.
-pub fn read(bytes: &[u8], p: &mut [u32], q: &mut [u32], segments: &mut [Segment]) -> ReadAnswer
+pub fn read(
+    bytes: &[u8],
+    p: &mut [u32],
+    q: &mut [u32],
+    segments: &mut [Segment],
+) -> Result<Counted, Refusal>
     ensures read { Reads bytes.now p.old q.old segments.old
         result p.new q.new segments.new }
 {
-    let room = segments.len();
-    let mut a = for_ends();
-    let mut b = for_ends();
-    let mut lengths = for_lengths();
-    let r = read_front(bytes, room, p, q, &mut a, &mut b, &mut lengths);
-    let n = count_of(r);
-    put_out(segments, n, &a, &b, &lengths);
-    r
+    let mut lists = Lists::new();
+    let counted = read_front(bytes, segments.len(), p, q, &mut lists)?;
+    let places = SegmentLists {
+        a: &lists.a,
+        b: &lists.b,
+        lengths: &lists.lengths,
+    };
+    put_out(segments, counted.count as usize, places);
+    Ok(counted)
 }

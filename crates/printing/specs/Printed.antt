@@ -1,14 +1,14 @@
 -- What the program prints for the bytes of a record: the five lines of the net that was read, or the one line of a
 -- refusal, of reading or of building. Relies on `on_records` for the net that a record holds, on net for its trees, and
 -- on lines for the text.
-use Rattle.std.specs.Prelude.{◌≡◌, List, ℕ, length, take}
+use Rattle.std.specs.Prelude.{◌≡◌, List, ℕ, length, take, Result, Ok, Err}
 use Rattle.net.specs.Net.{Net, every, most_posts}
 use Rattle.net.specs.Refusals.{Lent}
 use Rattle.net.specs.Building.{built, lightest_of, shortest_of, between_of, build_of}
+use Rattle.net.specs.declared.Plan.{Plan}
+use Rattle.net.specs.declared.Refusal.{Refusal}
 use Rattle.numbers.specs.Numbers.{Got, got, refused}
 use Rattle.on_records.specs.Asked.{record_read}
-use Rattle.on_records.specs.declared.PlanAnswer.{PlanAnswer}
-use Rattle.on_records.specs.declared.PlanAnswer.TheVariants.{Planned, Refused}
 use Rattle.reading.specs.Reading.{enough_bytes}
 use Rattle.lines.specs.Text.{refused_line, program_text}
 use Rattle.lines.specs.Putting.{Put}
@@ -28,11 +28,15 @@ lines_for (refused r) = refused_line r.number r.place
 unfoldable pub printed : List ℕ → List ℕ
 printed bytes = lines_for (record_read bytes)
 
--- the text of a plan's answer, with the three lists that planning leaves: what is printed for the record that was
--- planned (proofs/Printing)
-abbrev pub answer_text : PlanAnswer → List ℕ → List ℕ → List ℕ → List ℕ
-answer_text (Planned h m x y z k) l s w = program_text h m (built x y z k) l s w
-answer_text (Refused r) l s w = refused_line r.number r.place
+-- the lines of a plan, with the three lists that planning leaves
+abbrev pub lines_of : Plan → List ℕ → List ℕ → List ℕ → List ℕ
+lines_of plan l s w = program_text plan.head plan.count
+    (built plan.built.lightest plan.built.shortest plan.built.between plan.built.laid) l s w
+
+-- the text of a plan's answer: what is printed for the record that was planned (proofs/Printing)
+abbrev pub answer_text : Result Plan Refusal → List ℕ → List ℕ → List ℕ → List ℕ
+answer_text (Ok plan) l s w = lines_of plan l s w
+answer_text (Err r) l s w = refused_line r.number r.place
 
 -- PRINT: the room for what is read has as many bytes as are enough, and what is printed for the first n of them is put
 -- at the front of the room that held `out`; r is how many bytes that is

@@ -8,11 +8,13 @@ ghost use Rattle.lines.specs.Putting.{Put, most_text};
 ghost use Rattle.printing.specs.Printed.{printed, Prints};
 
 use net::POST_PLACES;
-use on_records::PlanAnswer;
+use on_records::plan;
 
-// The room for what is read, in bytes, and for what is printed.
+// The room for what is read, in bytes.
+// Also in moving: neither program's crate stands on the other.
 pub const ENOUGH_BYTES: usize = 15372;
 
+// The room for what is printed, in bytes.
 pub const MOST_TEXT: usize = 8192;
 
 // Puts what is printed for the bytes of a record at the front of the room for it, and answers how many bytes that is.
@@ -23,31 +25,17 @@ fn text(bytes: &[u8], out: &mut [u8]) -> usize
     let mut lightest = [0u16; POST_PLACES];
     let mut shortest = [0u16; POST_PLACES];
     let mut between = [0u16; POST_PLACES];
-    let answer = on_records::plan(bytes, &mut lightest, &mut shortest, &mut between);
-    match answer {
-        PlanAnswer::Planned {
-            head,
-            count,
-            lightest: l,
-            shortest: s,
-            between: b,
-            laid,
-        } => lines::put_built(
-            head, count, l, s, b, laid, &lightest, &shortest, &between, out,
-        ),
-        PlanAnswer::Refused(r) => lines::put_refused(r.number, r.place, out),
+    match plan(bytes, &mut lightest, &mut shortest, &mut between) {
+        Ok(planned) => lines::put_built(planned, &lightest, &shortest, &between, out),
+        Err(refusal) => lines::put_refused(refusal, out),
     }
 }
 
 // PRINT, for every input: puts what is printed for the first n bytes that were read, or for all where n is more, at the
-// front of the room for the text, and answers how many bytes that is.
+// front of the room for the text, and answers how many bytes that is. The rooms' sizes stand in their types, so that
+// the program can hand over no others; n stands beside its room for that.
 pub fn print(input: &[u8; ENOUGH_BYTES], n: usize, out: &mut [u8; MOST_TEXT]) -> usize
     ensures prints { Prints input.now n out.old result out.new }
 {
-    let bytes: &[u8] = input;
-    if n < bytes.len() {
-        text(&bytes[..n], out)
-    } else {
-        text(bytes, out)
-    }
+    text(&input[..n.min(input.len())], out)
 }

@@ -15,14 +15,10 @@ use Rattle.net.specs.declared.Form.{Form}
 use Rattle.net.specs.declared.Segment.{Segment}
 use Rattle.net.specs.declared.Refusal.{Refusal}
 use Rattle.net.specs.declared.Tree.{Tree}
-use Rattle.net.specs.declared.Checked.{Checked}
 use Rattle.net.specs.declared.Tree.TheVariants.{Lightest, Shortest, Between}
 use Rattle.net.proofs.Refusals.{build_answers, build_only, nine_exactly, not_joined_exactly, margin_answers, margin_only}
 use Rattle.building.specs.Answers.{answer_of, says_of, lent_of, Leaves}
-use Rattle.building.specs.declared.Answer.{Answer}
 use Rattle.margins.specs.Answers.{margin_answer_of, margin_says_of}
-use Rattle.margins.specs.declared.MarginAnswer.{MarginAnswer}
-use Rattle.margins.specs.declared.MarginAnswer.TheVariants.{Margin, Refused as Unmeasured'}
 use Rattle.building.proofs.Meaning.{refused_exactly}
 use Rattle.building.proofs.Unique.{answer_says}
 use Rattle.margins.proofs.Unique.{margin_answer_says}
@@ -31,23 +27,16 @@ use Rattle.reading.specs.Reading.{longest_record, net_read}
 use Rattle.writing.specs.Writing.{net_written, write_refusal, after_writing, the_room_after}
 use Rattle.reading.specs.Answers.{read_answer, says_by, check_read, ratios_read, ReadsLists}
 use Rattle.reading.specs.Answers.{list_read as numbersRead}
-use Rattle.reading.specs.declared.ReadAnswer.{ReadAnswer}
 use Rattle.writing.specs.Answers.{refusal_of, write_answer_by, write_answer_of, says_written, Writes}
-use Rattle.writing.specs.declared.WriteAnswer.{WriteAnswer}
-use Rattle.writing.specs.declared.WriteAnswer.TheVariants.{Written, Refused as Unput}
 use Rattle.reading.proofs.Ruled.{read_answers, read_only}
 use Rattle.writing.proofs.RuledWriting.{write_answers, write_only}
 use Rattle.on_segments.specs.Reading.{list_read, Reads}
 use Rattle.on_records.specs.Asked.{record_read, planned_with, plan_of, tree_list, Plans, rewrite_of, room_of, Rewrites, margin_said, margin_read}
 use Rattle.on_records.specs.Says.{says_planned}
-use Rattle.on_records.specs.declared.PlanAnswer.{PlanAnswer}
-use Rattle.on_records.specs.declared.PlanAnswer.TheVariants.{Planned, Refused as Unbuilt}
 use Rattle.moves.specs.Moves.{in_form, move_refusal, move_of, room_moved, Moves}
 use Rattle.moves.proofs.Ruled.{move_answers, move_only}
 use Rattle.lines.specs.Text.{refused_line}
 use Rattle.moving.specs.Handing.{for_error, handing_by, handing_of, handing, handed_as, Hands}
-use Rattle.moving.specs.declared.Handed.{Handed}
-use Rattle.moving.specs.declared.Handed.TheVariants.{Refused as Unhanded}
 use Rattle.moving.proofs.Given.{hands_same}
 use Rattle.c_numbers.specs.Named.{packed, marked, the_tree_named}
 use Rattle.c_numbers.specs.Lists.{front}
@@ -59,11 +48,15 @@ use Rattle.drawn.specs.declared.Run.{Run}
 use Rattle.drawn.specs.Drawn.{drawn_of}
 use Rattle.drawn.specs.Says.{sixteenths, refused as undrawn, says_of as drawn_says}
 use Rattle.drawn.specs.Rules.{Answers}
-use Rattle.drawn.specs.declared.Answer.{Answer as Drawn}
-use Rattle.drawn.specs.declared.Answer.TheVariants.{Length, Refused as Undrawn}
 use Rattle.drawn.proofs.Rules.{drawn_only, outcome_answers, outcome_only, drawn_refused_with}
 use Rattle.promises.specs.Demand1.{Refuses, RefusesInNumber, BuildRefuses, MarginRefuses, ReadRefuses, WriteRefuses, CheckRefuses, HandRefuses, OnRecord, by_reading, by_net, Unplanned, Unwritten, Unmoved, Unmeasured, Demand1}
 use Rattle.promises.proofs.Moves.{back_exactly}
+use Rattle.net.specs.Refusals.{Checked}
+use Rattle.margins.specs.Answers.{MarginAnswer}
+use Rattle.net.specs.declared.Plan.{Plan}
+use Rattle.net.specs.declared.Counted.{Counted}
+use Rattle.building.specs.Answers.{Answer}
+use Rattle.std.specs.Prelude.{Result, Ok, Err}
 
 module _ (n : Net) (m k : ℕ) (l s w : List ℕ) where
   kept : (r : Refusal) → build_refusal every n m k (lent_of l s w) ≡ some r → (t : Tree) (before now : List ℕ) → now ≡ after_build every n m k (lent_of l s w) t before → now ≡ before
@@ -81,7 +74,7 @@ module _ (n : Net) (m k : ℕ) (l s w : List ℕ) where
       }
 
 module _ (n : Net) (m k : ℕ) (t : Tree) (post : ℕ) where
-  margin_held : {r : Refusal} (o : Option Refusal) → margin_answer_of (margin_answer every n o t post) ≡ Unmeasured' r → o ≡ some r
+  margin_held : {r : Refusal} (o : Option Refusal) → margin_answer_of (margin_answer every n o t post) ≡ Err r → o ≡ some r
   unfolding margin_answer
   margin_held none e = absurd (let z : ◌≡◌ {A = ℕ} 0 1 = cc in omega arith)
   margin_held (some s) e = cc
@@ -104,14 +97,14 @@ read_held (got n next) rs ss e = absurd (let k : ◌≡◌ {A = ℕ} 0 1 = cc in
 read_held (refused s) rs ss e = cc
 
 -- what reading answers is its refusal exactly where it refuses
-module _ (bytes : List ℕ) (room ratioRoom : ℕ) {a : ReadAnswer} (is : a ≡ read_answer (net_read bytes room ratioRoom 0)) (rs : List Ratio) (ss : List Segment) where
+module _ (bytes : List ℕ) (room ratioRoom : ℕ) {a : Result Counted Refusal} (is : a ≡ read_answer (net_read bytes room ratioRoom 0)) (rs : List Ratio) (ss : List Segment) where
   read_says : (r : Refusal) → net_read bytes room ratioRoom 0 ≡ refused r → says_by a rs ss ≡ refusal_of r
   read_says r e = ap (λ b. says_by b rs ss) (is ∙ ap read_answer e)
 
   read_only_then : (r : Refusal) → says_by a rs ss ≡ refusal_of r → net_read bytes room ratioRoom 0 ≡ refused r
   read_only_then r e = read_held (net_read bytes room ratioRoom 0) rs ss (ap (λ b. says_by b rs ss) (sym is) ∙ e)
 
-pub read_refuses : (bytes p q : List ℕ) (l : List Segment) {p' q' : List ℕ} {l' : List Segment} {a : ReadAnswer} → Reads bytes p q l a p' q' l'
+pub read_refuses : (bytes p q : List ℕ) (l : List Segment) {p' q' : List ℕ} {l' : List Segment} {a : Result Counted Refusal} → Reads bytes p q l a p' q' l'
     → ReadRefuses bytes (length l) (length (ratios_of p q)) a (ratios_of p' q') l' ((p' ≡ p) × (q' ≡ q) × (l' ≡ l))
 read_refuses bytes p q l {p'} {q'} {l'} k =
     record {
@@ -122,7 +115,7 @@ read_refuses bytes p q l {p'} {q'} {l'} k =
       only_then = read_only_then bytes (length l) (length (ratios_of p q)) k.answers (ratios_of p' q') l';
     }
 
-pub read_lists_refuses : {bytes p q x y z p' q' x' y' z' : List ℕ} {a : ReadAnswer} → ReadsLists bytes p q x y z a p' q' x' y' z'
+pub read_lists_refuses : {bytes p q x y z p' q' x' y' z' : List ℕ} {a : Result Counted Refusal} → ReadsLists bytes p q x y z a p' q' x' y' z'
     → ReadRefuses bytes (length (segments_of x y z)) (length (ratios_of p q)) a (ratios_of p' q') (segments_of x' y' z') ((p' ≡ p) × (q' ≡ q) × (x' ≡ x) × (y' ≡ y) × (z' ≡ z))
 read_lists_refuses {bytes} {p} {q} {x} {y} {z} {p'} {q'} {x'} {y'} {z'} k =
     record {
@@ -144,19 +137,19 @@ module _ (n : Net) (m k : ℕ) (room : List ℕ) where
   write_held none e = absurd (let z : ◌≡◌ {A = ℕ} 0 1 = cc in omega arith)
   write_held (some s) e = cc
 
-  refused_write : {a : WriteAnswer} {x : List ℕ} → Writes n m k room a x → (r : Refusal) → write_refusal n m k (length room) ≡ some r → (says_written a ≡ refusal_of r) × (x ≡ room)
+  refused_write : {a : Result ℕ Refusal} {x : List ℕ} → Writes n m k room a x → (r : Refusal) → write_refusal n m k (length room) ≡ some r → (says_written a ≡ refusal_of r) × (x ≡ room)
   unfolding write_answer_of the_room_after
   refused_write w r e = (ap says_written (w.answers ∙ ap (λ o. write_answer_by o (length (net_written n))) e), w.leaves ∙ ap (λ o. after_writing o n room) e)
 
-  write_refused : {a : WriteAnswer} {x : List ℕ} → Writes n m k room a x → (r : Refusal) → says_written a ≡ refusal_of r → write_refusal n m k (length room) ≡ some r
+  write_refused : {a : Result ℕ Refusal} {x : List ℕ} → Writes n m k room a x → (r : Refusal) → says_written a ≡ refusal_of r → write_refusal n m k (length room) ≡ some r
   unfolding write_answer_of
   write_refused w r e = write_held (write_refusal n m k (length room)) (ap says_written (sym w.answers) ∙ e)
 
-  pub write_refuses : {a : WriteAnswer} {x : List ℕ} → Writes n m k room a x → WriteRefuses n m k room a x
+  pub write_refuses : {a : Result ℕ Refusal} {x : List ℕ} → Writes n m k room a x → WriteRefuses n m k room a x
   write_refuses w = record { refuses = refused_write w; only_then = write_refused w }
 
 module _ (bytes l s w : List ℕ) where
-  unread_plan : {a : PlanAnswer} {l' s' w' : List ℕ} → Plans bytes l s w a l' s' w'
+  unread_plan : {a : Result Plan Refusal} {l' s' w' : List ℕ} → Plans bytes l s w a l' s' w'
       → (r : Refusal) → record_read bytes ≡ refused r → (says_planned a ≡ refusal_of r) × (l' ≡ l) × (s' ≡ s) × (w' ≡ w)
   unread_plan k r e = (
     ap says_planned (k.answer ∙ ap (λ g. plan_of g (lent_of l s w)) e),
@@ -165,7 +158,7 @@ module _ (bytes l s w : List ℕ) where
     k.between ∙ ap (λ g. tree_list g (lent_of l s w) Between w) e,
   )
 
-  unbuilt_plan : {a : PlanAnswer} {l' s' w' : List ℕ} → Plans bytes l s w a l' s' w' → (n : Net) (next : ℕ) → record_read bytes ≡ got n next
+  unbuilt_plan : {a : Result Plan Refusal} {l' s' w' : List ℕ} → Plans bytes l s w a l' s' w' → (n : Net) (next : ℕ) → record_read bytes ≡ got n next
       → (r : Refusal) → build_refusal every n (length n.segments) most_posts (lent_of l s w) ≡ some r → (says_planned a ≡ refusal_of r) × (l' ≡ l) × (s' ≡ s) × (w' ≡ w)
   unfolding build_of build_answer
   unbuilt_plan k n next i r e = (
@@ -175,7 +168,7 @@ module _ (bytes l s w : List ℕ) where
     kept n (length n.segments) most_posts l s w r e Between w _ (k.between ∙ ap (λ g. tree_list g (lent_of l s w) Between w) i),
   )
 
-  refused_plan : {a : PlanAnswer} {l' s' w' : List ℕ} → Plans bytes l s w a l' s' w' → (r : Refusal)
+  refused_plan : {a : Result Plan Refusal} {l' s' w' : List ℕ} → Plans bytes l s w a l' s' w' → (r : Refusal)
       → OnRecord bytes (λ n. build_refusal every n (length n.segments) most_posts (lent_of l s w)) r → (says_planned a ≡ refusal_of r) × (l' ≡ l) × (s' ≡ s) × (w' ≡ w)
   refused_plan k r (by_reading e) = unread_plan k r e
   refused_plan k r (by_net n next i e) = unbuilt_plan k n next i r e
@@ -191,7 +184,7 @@ module _ (bytes l s w : List ℕ) where
   plan_held (got n next) i e = by_net n next i (built_held n (build_refusal every n (length n.segments) most_posts (lent_of l s w)) e)
   plan_held {r} (refused x) i e = by_reading (i ∙ (let k : ◌≡◌ {A = Got Net} (refused x) (refused r) = cc in k))
 
-  pub plan_refuses : {a : PlanAnswer} {l' s' w' : List ℕ} → Plans bytes l s w a l' s' w'
+  pub plan_refuses : {a : Result Plan Refusal} {l' s' w' : List ℕ} → Plans bytes l s w a l' s' w'
       → Refuses (Unplanned bytes (lent_of l s w)) (λ r. says_planned a ≡ refusal_of r) ((l' ≡ l) × (s' ≡ s) × (w' ≡ w))
   plan_refuses k =
       record {
@@ -200,7 +193,7 @@ module _ (bytes l s w : List ℕ) where
       }
 
 module _ (bytes room : List ℕ) where
-  refused_rewrite : {a : WriteAnswer} {x : List ℕ} → Rewrites bytes room a x → (r : Refusal)
+  refused_rewrite : {a : Result ℕ Refusal} {x : List ℕ} → Rewrites bytes room a x → (r : Refusal)
       → OnRecord bytes (λ n. write_refusal n (length n.segments) most_posts (length room)) r → (says_written a ≡ refusal_of r) × (x ≡ room)
   refused_rewrite k r (by_reading e) = (ap says_written (k.answers ∙ ap (λ g. rewrite_of g (length room)) e), k.leaves ∙ ap (λ g. room_of g room) e)
   refused_rewrite k r (by_net n next i e) =
@@ -215,12 +208,12 @@ module _ (bytes room : List ℕ) where
   rewrite_held (got n next) i e = by_net n next i (write_held n (length n.segments) most_posts room (write_refusal n (length n.segments) most_posts (length room)) e)
   rewrite_held {r} (refused x) i e = by_reading (i ∙ (let k : ◌≡◌ {A = Got Net} (refused x) (refused r) = cc in k))
 
-  pub rewrite_refuses : {a : WriteAnswer} {x : List ℕ} → Rewrites bytes room a x → Refuses (Unwritten bytes (length room)) (λ r. says_written a ≡ refusal_of r) (x ≡ room)
+  pub rewrite_refuses : {a : Result ℕ Refusal} {x : List ℕ} → Rewrites bytes room a x → Refuses (Unwritten bytes (length room)) (λ r. says_written a ≡ refusal_of r) (x ≡ room)
   rewrite_refuses k = record { refuses = refused_rewrite k; only_then = λ r e. rewrite_held (record_read bytes) refl (ap says_written (sym k.answers) ∙ e) }
 
 -- a move of a record
 module _ (f : Form) (bytes room : List ℕ) where
-  refused_move : {a : WriteAnswer} {x : List ℕ} → Moves f bytes room a x → (r : Refusal) → OnRecord bytes (λ n. move_refusal f n (length room)) r → (says_written a ≡ refusal_of r) × (x ≡ room)
+  refused_move : {a : Result ℕ Refusal} {x : List ℕ} → Moves f bytes room a x → (r : Refusal) → OnRecord bytes (λ n. move_refusal f n (length room)) r → (says_written a ≡ refusal_of r) × (x ≡ room)
   refused_move k r (by_reading e) = (ap says_written (k.answers ∙ ap (λ g. move_of f g (length room)) e), k.leaves ∙ ap (λ g. room_moved f g room) e)
   refused_move k r (by_net n next i e) = (
     ap says_written (k.answers ∙ ap (λ g. move_of f g (length room)) i ∙ ap (λ o. write_answer_by o (length (net_written (in_form f n)))) e),
@@ -231,7 +224,7 @@ module _ (f : Form) (bytes room : List ℕ) where
   move_held (got n next) i e = by_net n next i (write_held (in_form f n) 0 0 room (move_refusal f n (length room)) e)
   move_held {r} (refused x) i e = by_reading (i ∙ (let k : ◌≡◌ {A = Got Net} (refused x) (refused r) = cc in k))
 
-  pub move_refuses : {a : WriteAnswer} {x : List ℕ} → Moves f bytes room a x → Refuses (Unmoved f bytes (length room)) (λ r. says_written a ≡ refusal_of r) (x ≡ room)
+  pub move_refuses : {a : Result ℕ Refusal} {x : List ℕ} → Moves f bytes room a x → Refuses (Unmoved f bytes (length room)) (λ r. says_written a ≡ refusal_of r) (x ≡ room)
   move_refuses k = record { refuses = refused_move k; only_then = λ r e. move_held (record_read bytes) refl (ap says_written (sym k.answers) ∙ e) }
 
 -- what is handed on for it: the line of a refusal exactly where the rules refuse
@@ -241,15 +234,15 @@ module _ (f : Form) (bytes out : List ℕ) where
   refused_handing r (by_reading e) = ap (handing_of f) e
   refused_handing r (by_net n next i e) = ap (handing_of f) i ∙ ap (λ o. handing_by o (net_written (in_form f n))) e
 
-  hand_held : {size : ℕ} (g : Got Net) → record_read bytes ≡ g → handed_as (handing_of f g) ≡ Unhanded size → (r : Refusal) × Unmoved f bytes longest_record r
+  hand_held : {size : ℕ} (g : Got Net) → record_read bytes ≡ g → handed_as (handing_of f g) ≡ Err size → (r : Refusal) × Unmoved f bytes longest_record r
   hand_held (refused x) i e = (x, by_reading i)
   hand_held {size} (got n next) i e = by (move_refusal f n longest_record) refl e
     where
-      by : (o : Option Refusal) → move_refusal f n longest_record ≡ o → handed_as (handing_by o (net_written (in_form f n))) ≡ Unhanded size → (r : Refusal) × Unmoved f bytes longest_record r
+      by : (o : Option Refusal) → move_refusal f n longest_record ≡ o → handed_as (handing_by o (net_written (in_form f n))) ≡ Err size → (r : Refusal) × Unmoved f bytes longest_record r
       by none k e = absurd (let z : ◌≡◌ {A = ℕ} 0 1 = cc in omega arith)
       by (some r) k e = (r, by_net n next i k)
 
-  pub hand_refuses : {a : Handed} {x : List ℕ} → Hands (handing f bytes) out a x → HandRefuses f bytes out a x
+  pub hand_refuses : {a : Result ℕ ℕ} {x : List ℕ} → Hands (handing f bytes) out a x → HandRefuses f bytes out a x
   unfolding handing
   hand_refuses p = record { refuses = λ r u. hands_same p (refused_handing r u); only_then = λ size e. hand_held (record_read bytes) refl (sym p.answers ∙ e) }
 
@@ -280,37 +273,37 @@ check_zero : (g : Got Net) → ((r : Refusal) → g ≡ refused r → ⊥) → c
 check_zero (got n next) h = refl
 check_zero (refused r) h = absurd (h r refl)
 
-plan_number_law : (a : PlanAnswer) (r : Refusal) → says_planned a ≡ refusal_of r → (plan_number a ≡ packed r) × (summary_of a ≡ [])
-plan_number_law (Planned h m x y z k) r e = absurd (let q : ◌≡◌ {A = ℕ} 0 1 = cc in omega arith)
-plan_number_law (Unbuilt q) r e = (ap packed (let i : q ≡ r = cc in i), refl)
+plan_number_law : (a : Result Plan Refusal) (r : Refusal) → says_planned a ≡ refusal_of r → (plan_number a ≡ packed r) × (summary_of a ≡ [])
+plan_number_law (Ok x) r e = absurd (let q : ◌≡◌ {A = ℕ} 0 1 = cc in omega arith)
+plan_number_law (Err q) r e = (ap packed (let i : q ≡ r = cc in i), refl)
 
-plan_zero : (a : PlanAnswer) → ((r : Refusal) → says_planned a ≡ refusal_of r → ⊥) → plan_number a ≡ 0
-plan_zero (Planned h m x y z k) f = refl
-plan_zero (Unbuilt q) f = absurd (f q refl)
+plan_zero : (a : Result Plan Refusal) → ((r : Refusal) → says_planned a ≡ refusal_of r → ⊥) → plan_number a ≡ 0
+plan_zero (Ok x) f = refl
+plan_zero (Err q) f = absurd (f q refl)
 
-write_number_law : (a : WriteAnswer) (r : Refusal) → says_written a ≡ refusal_of r → the_write_number a ≡ marked r
-write_number_law (Written k) r e = absurd (let q : ◌≡◌ {A = ℕ} 0 1 = cc in omega arith)
-write_number_law (Unput q) r e = ap marked (let i : q ≡ r = cc in i)
+write_number_law : (a : Result ℕ Refusal) (r : Refusal) → says_written a ≡ refusal_of r → the_write_number a ≡ marked r
+write_number_law (Ok k) r e = absurd (let q : ◌≡◌ {A = ℕ} 0 1 = cc in omega arith)
+write_number_law (Err q) r e = ap marked (let i : q ≡ r = cc in i)
 
 write_size : (o : Option Refusal) (size : ℕ) → ((r : Refusal) → o ≡ some r → ⊥) → the_write_number (write_answer_by o size) ≡ size
 write_size none size h = refl
 write_size (some r) size h = absurd (h r refl)
 
 margin_number_law : (a : MarginAnswer) (r : Refusal) → margin_says_of a ≡ B.MarginAnswer.refused r → (margin_number a ≡ packed r) × (margins_of a ≡ [])
-margin_number_law (Margin z) r e = absurd (let q : ◌≡◌ {A = ℕ} 0 1 = cc in omega arith)
-margin_number_law (Unmeasured' q) r e = (ap packed (let i : q ≡ r = cc in i), refl)
+margin_number_law (Ok z) r e = absurd (let q : ◌≡◌ {A = ℕ} 0 1 = cc in omega arith)
+margin_number_law (Err q) r e = (ap packed (let i : q ≡ r = cc in i), refl)
 
 margin_zero : (a : MarginAnswer) → ((r : Refusal) → margin_says_of a ≡ B.MarginAnswer.refused r → ⊥) → margin_number a ≡ 0
-margin_zero (Margin z) f = refl
-margin_zero (Unmeasured' q) f = absurd (f q refl)
+margin_zero (Ok z) f = refl
+margin_zero (Err q) f = absurd (f q refl)
 
-drawn_number_law : (a : Drawn) (r : Refusal) → drawn_says a ≡ undrawn r.number r.place → drawn_number a ≡ marked r
-drawn_number_law (Length k) r e = absurd (let q : ◌≡◌ {A = ℕ} 0 1 = cc in omega arith)
-drawn_number_law (Undrawn q) r e = let i : q.number ≡ r.number = cc in let j : q.place ≡ r.place = cc in rw (i, j)
+drawn_number_law : (a : Result ℕ Refusal) (r : Refusal) → drawn_says a ≡ undrawn r.number r.place → drawn_number a ≡ marked r
+drawn_number_law (Ok k) r e = absurd (let q : ◌≡◌ {A = ℕ} 0 1 = cc in omega arith)
+drawn_number_law (Err q) r e = let i : q.number ≡ r.number = cc in let j : q.place ≡ r.place = cc in rw (i, j)
 
-drawn_length : (a : Drawn) (k : ℕ) → drawn_says a ≡ sixteenths k → drawn_number a ≡ k
-drawn_length (Length j) k e = cc
-drawn_length (Undrawn q) k e = absurd (let z : ◌≡◌ {A = ℕ} 0 1 = cc in omega arith)
+drawn_length : (a : Result ℕ Refusal) (k : ℕ) → drawn_says a ≡ sixteenths k → drawn_number a ≡ k
+drawn_length (Ok j) k e = cc
+drawn_length (Err q) k e = absurd (let z : ◌≡◌ {A = ℕ} 0 1 = cc in omega arith)
 
 pub c_check_refuses : (bytes : List ℕ) {a : ℕ} → a ≡ check_number (check_read (record_read bytes)) → RefusesInNumber (λ r. record_read bytes ≡ refused r) (λ r. a ≡ packed r) Unit (a ≡ 0)
 c_check_refuses bytes k = record { refuses = λ r e. (k ∙ ap (λ g. check_number (check_read g)) e, tt); otherwise = λ h. k ∙ check_zero (record_read bytes) h }

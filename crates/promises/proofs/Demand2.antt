@@ -23,21 +23,15 @@ use Rattle.net.proofs.Measuring.{tree_length, radius_most, radius_one}
 use Rattle.net.proofs.WalkRuled.{net_walk, only_net_walk}
 use Rattle.building.specs.Answers.{says_of, Leaves}
 use Rattle.margins.specs.Answers.{margin_answer_of, margin_says_of}
-use Rattle.building.specs.declared.Answer.{Answer}
-use Rattle.margins.specs.declared.MarginAnswer.{MarginAnswer}
 use Rattle.building.proofs.Unique.{says_answer}
 use Rattle.margins.proofs.Unique.{margin_answer_says, margin_says}
 use Rattle.on_records.specs.Asked.{Plans, record_read, margin_said, margin_read}
-use Rattle.on_records.specs.Says.{Plan, says_planned}
-use Rattle.on_records.specs.declared.PlanAnswer.{PlanAnswer}
-use Rattle.margins.specs.declared.MarginAnswer.TheVariants.{Margin}
+use Rattle.on_records.specs.Says.{says_planned}
 use Rattle.margins.proofs.Meaning.{given_accepted, given_below, given_zero, given_source, given_between, given_shortest}
 use Rattle.numbers.specs.Numbers.{got}
 use Rattle.writing.specs.Answers.{result}
 use Rattle.reading.proofs.Longest.{longest_record_law}
 use Rattle.drawn.specs.Says.{sixteenths, says_of as drawn_says}
-use Rattle.drawn.specs.declared.Answer.{Answer as Drawn}
-use Rattle.drawn.specs.declared.Answer.TheVariants.{Length}
 use Rattle.drawn.proofs.Rules.{same_says}
 use Rattle.drawn.proofs.Lengths.{straight_length, length_straight, corner_length, length_corner, straight_within, corner_within, whole_same}
 use Rattle.printing.proofs.Printing.{answer_lines}
@@ -50,6 +44,10 @@ use Rattle.promises.proofs.Taken.{taken_sound, taken_joined, answers, after, pla
 use Rattle.promises.proofs.Records.{records_both_ways}
 use Rattle.promises.proofs.Moves.{moved_as_stated, moves_both_ways}
 use Rattle.promises.proofs.Ratios.{ratios_as_stated, scaled_as_stated, own_scaled_as_stated}
+use Rattle.margins.specs.Answers.{MarginAnswer}
+use Rattle.net.specs.declared.Plan.{Plan}
+use Rattle.building.specs.Answers.{Answer}
+use Rattle.std.specs.Prelude.{Result, Ok}
 
 -- THE TREES
 module _ (n : Net) (m : ℕ) (fits : length n.segments ≤ m) (sound : NetSound every m n) (joined : AllJoined every n) where
@@ -125,7 +123,7 @@ module _ (n : Net) (m k : ℕ) (fits : length n.segments ≤ m) (l s w : List �
       }
 
 -- a record that was planned
-module _ (bytes l s w : List ℕ) {a : PlanAnswer} {l' s' w' : List ℕ} {q : Plan} (p : Plans bytes l s w a l' s' w') (e : says_planned a ≡ result q) where
+module _ (bytes l s w : List ℕ) {a : Result Plan Refusal} {l' s' w' : List ℕ} {q : Plan} (p : Plans bytes l s w a l' s' w') (e : says_planned a ≡ result q) where
   pub planned_as_stated : PlannedAsStated bytes l s w l' s' w' q
   planned_as_stated =
       let v = planned_net bytes l s w p e in
@@ -140,7 +138,7 @@ module _ (bytes l s w : List ℕ) {a : PlanAnswer} {l' s' w' : List ℕ} {q : Pl
 
 -- MARGINS
 module _ (n : Net) (m k : ℕ) (fits : length n.segments ≤ m) (t : Tree) (post : ℕ) {a : MarginAnswer} {z : ℤ} (is : a ≡ margin_answer_of (margin_of every n m k t post)) (says : margin_says_of a ≡ B.MarginAnswer.margin z) where
-  given : a ≡ Margin z
+  given : a ≡ Ok z
   given = sym (margin_answer_says a) ∙ ap margin_answer_of says
 
   held : (o : Option Refusal) → margin_answer every n o t post ≡ B.MarginAnswer.margin z → z ≡ the_margin_in every n t post
@@ -184,8 +182,8 @@ drawn_as_stated =
     }
   where
     -- an outcome that says a length is that length
-    is_length : {k : ℕ} (a : Drawn) {b : Drawn} → a ≡ b → drawn_says a ≡ sixteenths k → b ≡ Length k
-    is_length {k} a e f = sym e ∙ same_says a (Length k) f
+    is_length : {k : ℕ} (a : Result ℕ Refusal) {b : Result ℕ Refusal} → a ≡ b → drawn_says a ≡ sixteenths k → b ≡ Ok k
+    is_length {k} a e f = sym e ∙ same_says a (Ok k) f
 
 -- THE PROGRAMS
 pub program_as_stated : ProgramAsStated

@@ -19,17 +19,19 @@ use Rattle.net.proofs.Measuring.{tree_length, one_post}
 use Rattle.net.proofs.Own.{all_own, post_ratio_sound, smallest_of}
 use Rattle.net.proofs.Demand.{path_limit, no_slack, smallest_small, length_limit, length_limit_tree}
 use Rattle.building.specs.Answers.{Leaves, says_of}
-use Rattle.building.specs.declared.Answer.{Answer}
 use Rattle.building.proofs.Unique.{says_answer}
 use Rattle.numbers.specs.Numbers.{got}
 use Rattle.reading.proofs.RoundTrip.{sound_of_read}
 use Rattle.writing.specs.Answers.{result}
 use Rattle.on_records.specs.Asked.{record_read, Plans}
-use Rattle.on_records.specs.Says.{Plan, says_planned}
-use Rattle.on_records.specs.declared.PlanAnswer.{PlanAnswer}
+use Rattle.on_records.specs.Says.{says_planned}
 use Rattle.promises.specs.Demand3.{Bounds, LengthWithin, Demand3}
 use Rattle.promises.proofs.Taken.{taken_sound, taken_enough, taken_joined, planned_net}
 use Rattle.promises.proofs.Demand2.{built_as_stated}
+use Rattle.net.specs.declared.Plan.{Plan}
+use Rattle.net.specs.declared.Refusal.{Refusal}
+use Rattle.building.specs.Answers.{Answer}
+use Rattle.std.specs.Prelude.{Result}
 
 -- m segments are claimed, and no post's own ratio is missing
 module _ (n : Net) (m : ℕ) (fits : length n.segments ≤ m) (sound : NetSound every m n) (joined : AllJoined every n) (all : AllOwn n) where
@@ -75,12 +77,12 @@ own_read : (bytes : List ℕ) {n : Net} {next : ℕ} → record_read bytes ≡ g
 unfolding record_read
 own_read bytes {n} {next} i e = let k = (sound_of_read bytes most_segments most_posts n next i).kept.second_all e in omega arith
 
-bounds_planned : (bytes l s w : List ℕ) {a : PlanAnswer} {l' s' w' : List ℕ} {q : Plan} → Plans bytes l s w a l' s' w' → says_planned a ≡ result q
-    → {n : Net} {next : ℕ} → record_read bytes ≡ got n next → Bounds n (take n.head.posts w') × LengthWithin n q.between.length
+bounds_planned : (bytes l s w : List ℕ) {a : Result Plan Refusal} {l' s' w' : List ℕ} {q : Plan} → Plans bytes l s w a l' s' w' → says_planned a ≡ result q
+    → {n : Net} {next : ℕ} → record_read bytes ≡ got n next → Bounds n (take n.head.posts w') × LengthWithin n q.built.between.length
 bounds_planned bytes l s w {w' = w'} {q = q} p e {n} i =
     let v = planned_net bytes l s w p e in
     let same : v.n ≡ n = cc (v.read_is, i) in
-    subst (λ (m : Net). Bounds m (take m.head.posts w') × LengthWithin m q.between.length) same
+    subst (λ (m : Net). Bounds m (take m.head.posts w') × LengthWithin m q.built.between.length) same
     (bounds_left v.n (length v.n.segments) most_posts (le_refl (length v.n.segments)) (λ _. own_read bytes v.read_is) l s w v.leaves (says_answer _ ∙ v.says))
 
 pub demand_3 : Demand3

@@ -8,7 +8,6 @@ use Rattle.net.specs.Net.{Ratio}
 use Rattle.net.specs.declared.Form.{Form}
 use Rattle.net.specs.declared.Form.TheVariants.{First, Second}
 use Rattle.writing.specs.Answers.{result, says_written}
-use Rattle.writing.specs.declared.WriteAnswer.{WriteAnswer}
 use Rattle.numbers.specs.Putting.{onto}
 use Rattle.moves.specs.Moves.{in_form, Moves, ToFirst}
 use Rattle.moves.proofs.Forms.{moved_kept, moved_house}
@@ -16,8 +15,10 @@ use Rattle.moves.proofs.There.{was_moved, moved_front, moved_reads, read_sound, 
 use Rattle.moves.proofs.Outcomes.{no_twenty, equal_no_twenty}
 use Rattle.moves.proofs.Alike.{ratio_is_house, tree_moved, build_moved, margin_moved}
 use Rattle.promises.specs.Moves.{BackExactly, MovedAsStated, MovesBothWays}
+use Rattle.net.specs.declared.Refusal.{Refusal}
+use Rattle.std.specs.Prelude.{Result}
 
-pub moved_as_stated : (f : Form) (bytes room : List ℕ) {a : WriteAnswer} {x : List ℕ} {size : ℕ} → Moves f bytes room a x → says_written a ≡ result size → MovedAsStated f bytes room size x
+pub moved_as_stated : (f : Form) (bytes room : List ℕ) {a : Result ℕ Refusal} {x : List ℕ} {size : ℕ} → Moves f bytes room a x → says_written a ≡ result size → MovedAsStated f bytes room size x
 unfolding in_form
 moved_as_stated f bytes room moves says =
     let w = was_moved f bytes room moves says in
@@ -49,5 +50,5 @@ moves_both_ways =
       back_then_forward = λ bytes room room₂ all there said back long. home_again (λ e. apart (sym e)) all (was_moved First bytes room there said) room₂ back long;
     }
 
-pub back_exactly : (bytes room : List ℕ) {a : WriteAnswer} {x : List ℕ} → ToFirst bytes room a x → BackExactly bytes a
+pub back_exactly : (bytes room : List ℕ) {a : Result ℕ Refusal} {x : List ℕ} → ToFirst bytes room a x → BackExactly bytes a
 back_exactly bytes room w n next e second = (no_twenty bytes e second room w, equal_no_twenty bytes e second room w)

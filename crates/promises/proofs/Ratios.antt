@@ -25,9 +25,9 @@ use Rattle.net.proofs.Own.{own_first, own_second, own_count, own_at, ratio_house
 use Rattle.net.proofs.Ratios.{Scales, scales_self, scales_within, rated, build_scaled, after_scaled}
 use Rattle.crossings.specs.Lists.{net_on}
 use Rattle.building.specs.Answers.{answer_of, lent_of, Leaves}
-use Rattle.building.specs.declared.Answer.{Answer}
 use Rattle.promises.specs.Ratios.{RatiosAsStated, ScaledAsStated, ScaledBy, OwnScaledBy, SomeScaled}
 use Rattle.promises.proofs.Records.{recorded, same_net}
+use Rattle.building.specs.Answers.{Answer}
 
 -- THE RATIO OF A POST, of a net that is lent
 module _ (h : Head) (p q : List ℕ) (segments : List Segment) where

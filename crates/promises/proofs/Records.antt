@@ -18,17 +18,17 @@ use Rattle.crossings.specs.Lists.{net_on}
 use Rattle.numbers.specs.Numbers.{Bytes, Got, got, refused}
 use Rattle.numbers.specs.Putting.{onto}
 use Rattle.reading.specs.Answers.{said_of, laid_in, ratios_read, says_by}
-use Rattle.reading.specs.declared.ReadAnswer.{ReadAnswer}
 use Rattle.reading.proofs.Laid.{laid_length, laid_post, laid_source, laid_beyond}
 use Rattle.reading.proofs.RoundTrip.{Kept, kept_with, read_of_written, sound_of_read, records_equal, nets_equal}
 use Rattle.reading.proofs.Outcomes.{says_laid, read_writes}
 use Rattle.writing.specs.Writing.{net_written}
 use Rattle.writing.specs.Answers.{result, says_written, Writes}
-use Rattle.writing.specs.declared.WriteAnswer.{WriteAnswer}
-use Rattle.writing.specs.declared.WriteAnswer.TheVariants.{Written, Refused as NotWritten}
 use Rattle.writing.proofs.Outcomes.{was_written}
 use Rattle.on_segments.specs.Reading.{list_read, read_into, Reads}
 use Rattle.promises.specs.Records.{LaidAs, ReadAs, RecordsBothWays}
+use Rattle.net.specs.declared.Counted.{Counted}
+use Rattle.net.specs.declared.Refusal.{Refusal}
+use Rattle.std.specs.Prelude.{Result, Ok, Err}
 
 -- THE LISTS OF RATIOS
 not_both : {f : Form} → f ≡ First → f ≡ Second → ⊥
@@ -64,7 +64,7 @@ named same a =
     }
 
 -- WHAT WAS READ
-module _ (bytes p q : List ℕ) (l : List Segment) {a : ReadAnswer} {p' q' : List ℕ} {l' : List Segment} (r : Reads bytes p q l a p' q' l') where
+module _ (bytes p q : List ℕ) (l : List Segment) {a : Result Counted Refusal} {p' q' : List ℕ} {l' : List Segment} (r : Reads bytes p q l a p' q' l') where
   begins : (g : Got Net) (n : Net) (next : ℕ) → g ≡ got n next → take (length n.segments) (list_read g l) ≡ n.segments
   begins g n next e = rw e (take-append_seam n.segments _)
 
@@ -105,18 +105,18 @@ pub record Recorded (n : Net) (k size : ℕ) (x : List ℕ) : Type 0 where
   pub enough : n.head.posts ≤ k
   pub front : take size x ≡ net_written n
 
-said_written : (a : WriteAnswer) {size : ℕ} → says_written a ≡ result size → a ≡ Written size
-said_written (Written k) e = cc
-said_written (NotWritten r) e = absurd (let z : ◌≡◌ {A = ℕ} 0 1 = cc in omega arith)
+said_written : (a : Result ℕ Refusal) {size : ℕ} → says_written a ≡ result size → a ≡ Ok size
+said_written (Ok k) e = cc
+said_written (Err r) e = absurd (let z : ◌≡◌ {A = ℕ} 0 1 = cc in omega arith)
 
-pub recorded : (n : Net) (k : ℕ) (room : List ℕ) {a : WriteAnswer} {size : ℕ} {x : List ℕ} → Writes n (length n.segments) k room a x → says_written a ≡ result size → Recorded n k size x
+pub recorded : (n : Net) (k : ℕ) (room : List ℕ) {a : Result ℕ Refusal} {size : ℕ} {x : List ℕ} → Writes n (length n.segments) k room a x → says_written a ≡ result size → Recorded n k size x
 recorded n k room {a} w e =
     let v = was_written n (length n.segments) k room _ _ _ w (said_written a e) in
     record { sound = v.sound; enough = v.enough; front = rw (v.room_is, v.size_is) (take-append_seam (net_written n) _) }
 
 -- BOTH WAYS
-back : (h : Head) (p q : List ℕ) (segments : List Segment) (room : List ℕ) {a : WriteAnswer} {size : ℕ} {x : List ℕ} → Writes (net_on h p q segments) (length segments) (length (ratios_of p q)) room a x
-    → says_written a ≡ result size → (p₂ q₂ : List ℕ) (l : List Segment) {b : ReadAnswer} {p' q' : List ℕ} {l' : List Segment} → h.posts ≤ length p₂ → h.posts ≤ length q₂ → length segments ≤ length l
+back : (h : Head) (p q : List ℕ) (segments : List Segment) (room : List ℕ) {a : Result ℕ Refusal} {size : ℕ} {x : List ℕ} → Writes (net_on h p q segments) (length segments) (length (ratios_of p q)) room a x
+    → says_written a ≡ result size → (p₂ q₂ : List ℕ) (l : List Segment) {b : Result Counted Refusal} {p' q' : List ℕ} {l' : List Segment} → h.posts ≤ length p₂ → h.posts ≤ length q₂ → length segments ≤ length l
     → Reads (take size x) p₂ q₂ l b p' q' l' → ReadAs (net_on h p q segments) (λ v. get_or p v 0) (λ v. get_or q v 0) p₂ q₂ l b p' q' l'
 back h p q segments room {a} {size} {x} w s p₂ q₂ l long-p long-q few r =
     let n = net_on h p q segments in
@@ -133,22 +133,22 @@ back h p q segments room {a} {size} {x} w s p₂ q₂ l long-p long-q few r =
       q_laid = named (λ f u i ne. ap (λ o. o.q) (ratio_lent h p q segments f u i (omega arith) (omega arith) ne)) k.q_laid;
     }
 
-again : (bytes p q : List ℕ) (l : List Segment) {a : ReadAnswer} {p' q' : List ℕ} {l' : List Segment} {n : Net} → Bytes bytes → Reads bytes p q l a p' q' l' → says_by a (ratios_of p' q') l' ≡ result n
-    → (k : ℕ) (room : List ℕ) {b : WriteAnswer} {x : List ℕ} → n.head.posts ≤ k → length bytes ≤ length room → Writes n (length n.segments) k room b x
+again : (bytes p q : List ℕ) (l : List Segment) {a : Result Counted Refusal} {p' q' : List ℕ} {l' : List Segment} {n : Net} → Bytes bytes → Reads bytes p q l a p' q' l' → says_by a (ratios_of p' q') l' ≡ result n
+    → (k : ℕ) (room : List ℕ) {b : Result ℕ Refusal} {x : List ℕ} → n.head.posts ≤ k → length bytes ≤ length room → Writes n (length n.segments) k room b x
     → (says_written b ≡ result (length bytes)) × (x ≡ onto bytes room)
 again bytes p q l {n = n} all r s k room enough long w =
     let b = was_read bytes p q l r s in
     let z = read_writes bytes (length l) (length (ratios_of p q)) n b.0 k room all b.1 enough long in
     (ap says_written (w.answers ∙ z.0), w.leaves ∙ z.1)
 
-alike : (b c p q p₂ q₂ : List ℕ) (l m : List Segment) {a a₂ : ReadAnswer} {p' q' p₃ q₃ : List ℕ} {l' m' : List Segment} {n : Net} → Bytes b → Bytes c
+alike : (b c p q p₂ q₂ : List ℕ) (l m : List Segment) {a a₂ : Result Counted Refusal} {p' q' p₃ q₃ : List ℕ} {l' m' : List Segment} {n : Net} → Bytes b → Bytes c
     → Reads b p q l a p' q' l' → says_by a (ratios_of p' q') l' ≡ result n → Reads c p₂ q₂ m a₂ p₃ q₃ m' → says_by a₂ (ratios_of p₃ q₃) m' ≡ result n → b ≡ c
 alike b c p q p₂ q₂ l m {n = n} x y r s t u =
     let i = was_read b p q l r s in
     let j = was_read c p₂ q₂ m t u in
     records_equal b c (length l) (length m) (length (ratios_of p q)) (length (ratios_of p₂ q₂)) n i.0 j.0 x y i.1 j.1
 
-pub same_net : (h h₂ : Head) (p q p₂ q₂ : List ℕ) (ss ss₂ : List Segment) (room room₂ : List ℕ) {a b : WriteAnswer} {size size₂ : ℕ} {x y : List ℕ}
+pub same_net : (h h₂ : Head) (p q p₂ q₂ : List ℕ) (ss ss₂ : List Segment) (room room₂ : List ℕ) {a b : Result ℕ Refusal} {size size₂ : ℕ} {x y : List ℕ}
     → Writes (net_on h p q ss) (length ss) (length (ratios_of p q)) room a x → says_written a ≡ result size
     → Writes (net_on h₂ p₂ q₂ ss₂) (length ss₂) (length (ratios_of p₂ q₂)) room₂ b y → says_written b ≡ result size₂ → take size x ≡ take size₂ y → net_on h p q ss ≡ net_on h₂ p₂ q₂ ss₂
 same_net h h₂ p q p₂ q₂ ss ss₂ room room₂ w s v t e =

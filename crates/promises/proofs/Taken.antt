@@ -13,14 +13,15 @@ use Rattle.net.specs.declared.Refusal.{Refusal}
 use Rattle.net.specs.declared.Tree.{Tree}
 use Rattle.net.specs.declared.Tree.TheVariants.{Lightest, Shortest, Between}
 use Rattle.net.proofs.Refusals.{accepted}
-use Rattle.building.specs.Answers.{answer_of, lent_of, says_of, Leaves}
-use Rattle.building.specs.declared.Answer.{Answer}
+use Rattle.building.specs.Answers.{answer_of, lent_of, measures, says_of, Leaves}
 use Rattle.building.proofs.Unique.{build_says}
 use Rattle.numbers.specs.Numbers.{Got, got, refused as unread}
 use Rattle.writing.specs.Answers.{result}
 use Rattle.on_records.specs.Asked.{record_read, planned_with, plan_of, tree_list, Plans}
-use Rattle.on_records.specs.Says.{Plan, says_planned}
-use Rattle.on_records.specs.declared.PlanAnswer.{PlanAnswer}
+use Rattle.on_records.specs.Says.{says_planned}
+use Rattle.net.specs.declared.Plan.{Plan}
+use Rattle.building.specs.Answers.{Answer}
+use Rattle.std.specs.Prelude.{Result}
 
 -- m segments are claimed, and k ratios are lent
 module _ (n : Net) (m k : ℕ) (l s w : List ℕ) {a : Answer} {l' s' w' : List ℕ} {x y z : Measured} {j : ℕ} (leaves : Leaves n m k l s w a l' s' w') (says : says_of a ≡ built x y z j) where
@@ -64,13 +65,13 @@ pub record PlannedNet (bytes l s w l' s' w' : List ℕ) (q : Plan) : Type 0 wher
   pub head_is : q.head ≡ n.head
   pub count_is : q.count ≡ length n.segments
   pub leaves : Leaves n (length n.segments) most_posts l s w (answer_of (build_of every n (length n.segments) most_posts (lent_of l s w))) l' s' w'
-  pub says : build_of every n (length n.segments) most_posts (lent_of l s w) ≡ built q.lightest q.shortest q.between q.laid
+  pub says : build_of every n (length n.segments) most_posts (lent_of l s w) ≡ built q.built.lightest q.built.shortest q.built.between q.built.laid
 
-module _ (bytes l s w : List ℕ) {a : PlanAnswer} {l' s' w' : List ℕ} {q : Plan} (p : Plans bytes l s w a l' s' w') (e : says_planned a ≡ result q) where
+module _ (bytes l s w : List ℕ) {a : Result Plan Refusal} {l' s' w' : List ℕ} {q : Plan} (p : Plans bytes l s w a l' s' w') (e : says_planned a ≡ result q) where
   of_built : (n : Net) (next : ℕ) → record_read bytes ≡ got n next → (b : BuildAnswer) → build_of every n (length n.segments) most_posts (lent_of l s w) ≡ b
       → says_planned (planned_with n.head (length n.segments) b) ≡ result q → PlannedNet bytes l s w l' s' w' q
   of_built n next i (built x y z k) f g =
-      let u : record { head = n.head; count = length n.segments; lightest = x; shortest = y; between = z; laid = k } ≡ q = cc in
+      let u : record { head = n.head; count = length n.segments; built = measures x y z k } ≡ q = cc in
       record {
         n = n;
         next = next;
@@ -83,7 +84,7 @@ module _ (bytes l s w : List ℕ) {a : PlanAnswer} {l' s' w' : List ℕ} {q : Pl
           shortest = p.shortest ∙ ap (λ v. tree_list v (lent_of l s w) Shortest s) i;
           between = p.between ∙ ap (λ v. tree_list v (lent_of l s w) Between w) i;
         };
-        says = f ∙ ap (λ (v : Plan). built v.lightest v.shortest v.between v.laid) u;
+        says = f ∙ ap (λ (v : Plan). built v.built.lightest v.built.shortest v.built.between v.built.laid) u;
       }
   of_built n next i (refused r) f g = absurd (let k : ◌≡◌ {A = ℕ} 0 1 = cc in omega arith)
 

@@ -26,9 +26,9 @@ same {e = e} p k = (p ∙ sym k, λ i. e)
 pub unique : Unique
 unique =
     record {
-      build = λ w κs x g r q e o. both w (λ p k. let z = build_one _ _ _ _ _ _ p k in (z.answers, λ i. (tt, (tt, (tt, (tt, (z.lightest i, (z.shortest i, (z.between i, tt)))))))));
+      build = λ w κs x g r q e o. both w (λ p k. let z = build_one _ _ _ _ _ _ p k in (z.answers, λ i. (tt, (tt, (tt, (z.lightest i, (z.shortest i, (z.between i, tt))))))));
       margin = λ w κs x g r q e o. both w same;
-      write = λ w κs x g r q e o. both w (λ p k. let z = write_unique _ _ _ _ _ _ _ _ p k in (z.0, λ i. (tt, (tt, (tt, (tt, (z.1 i, tt)))))));
+      write = λ w κs x g r q e o. both w (λ p k. let z = write_unique _ _ _ _ _ _ _ _ p k in (z.0, λ i. (tt, (tt, (tt, (z.1 i, tt))))));
       read = λ w κs x g r q e o. both w (λ p k. (p.answers ∙ sym k.answers, λ i. (tt, ((p.p_is ∙ sym k.p_is) i, ((p.q_is ∙ sym k.q_is) i, ((p.list_is ∙ sym k.list_is) i, tt))))));
       drawn = λ w κs x g r q e o. both w same;
       plan = λ w κs x g r q e o. both w (λ p k. let z = on-records.plan_one _ _ _ _ p k in (z.answers, λ i. (tt, (z.lightest i, (z.shortest i, (z.between i, tt))))));
@@ -46,9 +46,9 @@ unique =
       c_drawn = λ w κs x g r q e o. both w same;
       print = λ w κs x g r q e o. both w (λ p k. (p.puts.behind ∙ sym k.puts.behind, λ i. (tt, (tt, ((p.puts.holds ∙ sym k.puts.holds) i, tt)))));
       hand_on = λ w κs x g r q e o. both w (λ p k. let z = hands_one p.hands k.hands in (z.0, λ i. (tt, (tt, (tt, (z.1 i, tt))))));
-      build_lists = λ w κs x g r q e o. both w (λ p k. let z = build_one _ _ _ _ _ _ p k in (z.answers, λ i. (tt, (tt, (tt, (tt, (tt, (tt, (z.lightest i, (z.shortest i, (z.between i, tt)))))))))));
+      build_lists = λ w κs x g r q e o. both w (λ p k. let z = build_one _ _ _ _ _ _ p k in (z.answers, λ i. (tt, (z.lightest i, (z.shortest i, (z.between i, tt))))));
       margin_lists = λ w κs x g r q e o. both w same;
-      write_lists = λ w κs x g r q e o. both w (λ p k. let z = write_unique _ _ _ _ _ _ _ _ p k in (z.0, λ i. (tt, (tt, (tt, (tt, (tt, (tt, (z.1 i, tt)))))))));
+      write_lists = λ w κs x g r q e o. both w (λ p k. let z = write_unique _ _ _ _ _ _ _ _ p k in (z.0, λ i. (tt, (z.1 i, tt))));
       read_lists = λ w κs x g r q e o. both w (λ p k. let z = read_unique _ _ _ _ _ _ _ _ _ _ _ _ _ _ _ _ _ _ p k in (z.0, λ i. (tt, (z.1 i, (z.2 i, (z.3 i, (z.4 i, (z.5 i, tt))))))));
       check_record = λ w κs x g r q e o. both w same;
       number_at = λ w κs x g r q e o. both w same;

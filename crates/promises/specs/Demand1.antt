@@ -12,7 +12,7 @@
 use Rattle.std.specs.Prelude.{◌≡◌, ◌↔◌, List, ℕ, ◌≤◌, ◌<◌, ◌^◌, length, take}
 use Rattle.std.proofs.Math.Option.{Option, some}
 use Rattle.net.specs.Net.{Ratio, Net, every, ratios_of, segments_of, most_posts, most_segments}
-use Rattle.net.specs.Ready.{net_by, ratio_count_by, count_by}
+use Rattle.net.specs.Ready.{net_in, ratio_count_in, count_in}
 use Rattle.net.specs.Refusals.{Lent, refusal, says_of as checkSays}
 use Rattle.net.specs.Rules.{NetSound, LongEnough, Joined, LowestApart, BuildRule, MarginRule}
 use Rattle.net.specs.Building.{refused, build_refusal, margin_refusal}
@@ -21,12 +21,9 @@ use Rattle.net.specs.declared.Form.{Form}
 use Rattle.net.specs.declared.Form.TheVariants.{First, Second}
 use Rattle.net.specs.declared.Segment.{Segment}
 use Rattle.net.specs.declared.Refusal.{Refusal}
-use Rattle.net.specs.declared.Checked.{Checked}
 use Rattle.crossings.specs.Lists.{net_on}
 use Rattle.building.specs.Answers.{lent_of, says_of}
 use Rattle.margins.specs.Answers.{margin_says_of}
-use Rattle.building.specs.declared.Answer.{Answer}
-use Rattle.margins.specs.declared.MarginAnswer.{MarginAnswer}
 use Rattle.numbers.specs.Numbers.{Bytes, Got, got, refused as unread}
 use Rattle.reading.specs.Reading.{longest_record, net_read}
 use Rattle.writing.specs.Writing.{net_written, write_refusal}
@@ -34,22 +31,23 @@ use Rattle.reading.specs.Rules.{ReadRule}
 use Rattle.writing.specs.Rules.{WriteRule}
 use Rattle.reading.specs.Answers.{says_by}
 use Rattle.writing.specs.Answers.{refusal_of, says_written}
-use Rattle.reading.specs.declared.ReadAnswer.{ReadAnswer}
-use Rattle.writing.specs.declared.WriteAnswer.{WriteAnswer}
 use Rattle.on_records.specs.Asked.{record_read}
 use Rattle.on_records.specs.Says.{says_planned}
 use Rattle.moves.specs.Moves.{in_second, in_first, move_refusal, unmoved_of}
 use Rattle.moves.specs.Rules.{MoveRule}
 use Rattle.lines.specs.Text.{refused_line}
 use Rattle.moving.specs.Handing.{the_wanted_by, for_error, Hands}
-use Rattle.moving.specs.declared.Handed.{Handed}
-use Rattle.moving.specs.declared.Handed.TheVariants.{Refused as Unhanded}
 use Rattle.c_numbers.specs.Named.{packed, marked, the_run_named}
 use Rattle.drawn.specs.Says.{Says as Said, sixteenths, refused as undrawn, says_of as drawn_says}
 use Rattle.drawn.specs.Rules.{Answers}
 use Rattle.promises.specs.Promised.{Says}
 use Rattle.promises.specs.Moves.{BackExactly}
 use Rattle.promises.specs.Entries as entry
+use Rattle.net.specs.Refusals.{Checked}
+use Rattle.margins.specs.Answers.{MarginAnswer}
+use Rattle.net.specs.declared.Counted.{Counted}
+use Rattle.building.specs.Answers.{Answer}
+use Rattle.std.specs.Prelude.{Result, Err}
 
 -- THE RULES, of building a net n that claims m segments and for which k ratios are lent, with three lists of these
 -- lengths
@@ -106,12 +104,12 @@ MarginRefuses n m k post a = Refuses (λ r. margin_refusal every n m k post ≡ 
     (λ r. margin_says_of a ≡ B.MarginAnswer.refused r) (Unit {0})
 
 -- WRITING a net n that claims m segments and for which k ratios are lent, where the room held those bytes
-abbrev pub WriteRefuses : Net → ℕ → ℕ → List ℕ → WriteAnswer → List ℕ → Type 0
+abbrev pub WriteRefuses : Net → ℕ → ℕ → List ℕ → Result ℕ Refusal → List ℕ → Type 0
 WriteRefuses n m k room a x = Refuses (λ r. write_refusal n m k (length room) ≡ some r)
     (λ r. says_written a ≡ refusal_of r) (x ≡ room)
 
 -- READING, with room for so many segments and so many ratios, which are then these
-abbrev pub ReadRefuses : List ℕ → ℕ → ℕ → ReadAnswer → List Ratio → List Segment → Type 0 → Type 0
+abbrev pub ReadRefuses : List ℕ → ℕ → ℕ → Result Counted Refusal → List Ratio → List Segment → Type 0 → Type 0
 ReadRefuses bytes room ratioRoom a ratios segments kept = Refuses (λ r. net_read bytes room ratioRoom 0 ≡ unread r)
     (λ r. says_by a ratios segments ≡ refusal_of r) kept
 
@@ -141,10 +139,10 @@ Unmeasured bytes post = OnRecord bytes (λ n. margin_refusal every n (length n.s
 
 -- HANDING ON what was moved, with room for the longest record: where the rules refuse, the line of that refusal stands
 -- at the front of the room, and behind it the room is as it was; a line is handed on only where they refuse
-pub record HandRefuses (wanted : Form) (bytes out : List ℕ) (a : Handed) (x : List ℕ) : Type 0 where
+pub record HandRefuses (wanted : Form) (bytes out : List ℕ) (a : Result ℕ ℕ) (x : List ℕ) : Type 0 where
   pub refuses : (r : Refusal) → Unmoved wanted bytes longest_record r
       → Hands (for_error (refused_line r.number r.place)) out a x
-  pub only_then : (size : ℕ) → a ≡ Unhanded size → (r : Refusal) × Unmoved wanted bytes longest_record r
+  pub only_then : (size : ℕ) → a ≡ Err size → (r : Refusal) × Unmoved wanted bytes longest_record r
 
 -- EVERY ENTRY, whatever is handed to it
 pub record Demand1 : Type 2 where
@@ -155,32 +153,31 @@ pub record Demand1 : Type 2 where
   pub move_rules : (wanted : Form) (bytes : List ℕ) (room : ℕ) → MoveRules wanted bytes room
   -- over a lent list of segments
   pub build : Says entry.build
-      (λ κs (h, (p, (q, (segments, (l, (s, (w, _))))))) a (_, (_, (_, (_, (l', (s', (w', _))))))).
-      BuildRefuses (net_on h p.now q.now segments.now) (length segments.now) (ratio_count_by p q)
+      (λ κs (h, (own, (segments, (l, (s, (w, _)))))) a (_, (_, (_, (l', (s', (w', _)))))).
+      BuildRefuses (net_on h own.p.now own.q.now segments.now) (length segments.now) (ratio_count_in own)
       l.now s.now w.now a l' s' w')
-  pub margin : Says entry.margin (λ κs (h, (p, (q, (segments, (_, (post, _)))))) a _.
-      MarginRefuses (net_on h p.now q.now segments.now) (length segments.now) (ratio_count_by p q) post a)
+  pub margin : Says entry.margin (λ κs (h, (own, (segments, (_, (post, _))))) a _.
+      MarginRefuses (net_on h own.p.now own.q.now segments.now) (length segments.now) (ratio_count_in own) post a)
   pub read : Says entry.read (λ κs (bytes, (p, (q, (l, _)))) a (_, (p', (q', (l', _)))).
       ReadRefuses bytes.now (length l.now) (length (ratios_of p.now q.now)) a (ratios_of p' q') l'
       ((p' ≡ p.now) × (q' ≡ q.now) × (l' ≡ l.now)))
-  pub write : Says entry.write (λ κs (h, (p, (q, (segments, (room, _))))) a (_, (_, (_, (_, (x, _))))).
-      WriteRefuses (net_on h p.now q.now segments.now) (length segments.now) (ratio_count_by p q) room.now a x)
+  pub write : Says entry.write (λ κs (h, (own, (segments, (room, _)))) a (_, (_, (_, (x, _)))).
+      WriteRefuses (net_on h own.p.now own.q.now segments.now) (length segments.now) (ratio_count_in own) room.now a x)
   -- over plain lists
   pub build_lists : Says entry.build_lists
-      (λ κs (h, (p, (q, (a, (b, (lengths, (l, (s, (w, _)))))))))
-      r (_, (_, (_, (_, (_, (_, (l', (s', (w', _))))))))).
-      BuildRefuses (net_by h p q a b lengths) (count_by a b lengths) (ratio_count_by p q)
+      (λ κs (net, (l, (s, (w, _)))) r (_, (l', (s', (w', _)))).
+      BuildRefuses (net_in net) (count_in net.segments) (ratio_count_in net.own)
       l.now s.now w.now r l' s' w')
-  pub margin_lists : Says entry.margin_lists (λ κs (h, (p, (q, (a, (b, (lengths, (_, (post, _)))))))) r _.
-      MarginRefuses (net_by h p q a b lengths) (count_by a b lengths) (ratio_count_by p q) post r)
+  pub margin_lists : Says entry.margin_lists (λ κs (net, (_, (post, _))) r _.
+      MarginRefuses (net_in net) (count_in net.segments) (ratio_count_in net.own) post r)
   pub read_lists : Says entry.read_lists
       (λ κs (bytes, (p, (q, (a, (b, (lengths, _)))))) r (_, (p', (q', (a', (b', (lengths', _)))))).
       ReadRefuses bytes.now (length (segments_of a.now b.now lengths.now)) (length (ratios_of p.now q.now)) r
       (ratios_of p' q') (segments_of a' b' lengths')
       ((p' ≡ p.now) × (q' ≡ q.now) × (a' ≡ a.now) × (b' ≡ b.now) × (lengths' ≡ lengths.now)))
   pub write_lists : Says entry.write_lists
-      (λ κs (h, (p, (q, (a, (b, (lengths, (room, _))))))) r (_, (_, (_, (_, (_, (_, (x, _))))))).
-      WriteRefuses (net_by h p q a b lengths) (count_by a b lengths) (ratio_count_by p q) room.now r x)
+      (λ κs (net, (room, _)) r (_, (x, _)).
+      WriteRefuses (net_in net) (count_in net.segments) (ratio_count_in net.own) room.now r x)
   pub check_record : Says entry.check_record (λ κs (bytes, _) a _.
       CheckRefuses (net_read bytes.now most_segments most_posts 0) a)
   -- on records

@@ -26,7 +26,7 @@ use Rattle.net.specs.Walk.{Notes, Given}
 use Rattle.net.specs.WalkRules.{WalkGives}
 use Rattle.net.specs.Building.{p_of, q_of, built, lightest_of, least_lengths_of, shortest_of, between_of, laid_of, tree_of}
 use Rattle.net.specs.Building as B
-use Rattle.net.specs.Ready.{net_by}
+use Rattle.net.specs.Ready.{net_in}
 use Rattle.crossings.specs.Lists.{net_on}
 use Rattle.building.specs.Answers.{says_of}
 use Rattle.margins.specs.Answers.{margin_says_of}
@@ -35,7 +35,8 @@ use Rattle.reading.specs.Longest.{LongestRecord}
 use Rattle.writing.specs.Writing.{net_written}
 use Rattle.writing.specs.Answers.{result, says_written}
 use Rattle.on_records.specs.Asked.{record_read}
-use Rattle.on_records.specs.Says.{Plan, says_planned}
+use Rattle.net.specs.declared.Plan.{Plan}
+use Rattle.on_records.specs.Says.{says_planned}
 use Rattle.reading.specs.Reading.{longest_record, enough_bytes}
 use Rattle.moves.specs.Moves.{in_form, move_refusal}
 use Rattle.printing.specs.Printed.{printed, answer_text}
@@ -44,12 +45,13 @@ use Rattle.drawn.specs.Drawn.{most, drawn_of}
 use Rattle.drawn.specs.Says.{sixteenths, says_of as drawn_says}
 use Rattle.drawn.specs.Rules.{AreSixteenths, RoundsTo, WithinTwo, Long, BothLong}
 use Rattle.drawn.specs.declared.Run.TheVariants.{Straight, Corner}
-use Rattle.drawn.specs.declared.Answer.{Answer as Drawn}
 use Rattle.promises.specs.Promised.{Says}
 use Rattle.promises.specs.Entries as entry
 use Rattle.promises.specs.Ratios.{RatiosAsStated, ScaledAsStated, ScaledBy, OwnScaledBy, SomeScaled}
 use Rattle.promises.specs.Records.{RecordsBothWays}
 use Rattle.promises.specs.Moves.{MovedAsStated, MovesBothWays}
+use Rattle.net.specs.declared.Refusal.{Refusal}
+use Rattle.std.specs.Prelude.{Result}
 
 -- THE TREES of a net that building takes
 -- what its walk is given: "Walk the lightest tree", the shortest tree and D for laying, and each post's own ratio
@@ -128,7 +130,7 @@ pub record PlannedAsStated (bytes l s w l' s' w' : List ℕ) (q : Plan) : Type 0
   pub read_is : record_read bytes ≡ got n next
   pub head_is : q.head ≡ n.head
   pub count_is : q.count ≡ length n.segments
-  pub built_is : BuiltAsStated n l s w l' s' w' q.lightest q.shortest q.between q.laid
+  pub built_is : BuiltAsStated n l s w l' s' w' q.built.lightest q.built.shortest q.built.between q.built.laid
 
 -- A MARGIN z that is given for a post in the named tree: "It is signed, and below zero exactly when the post breaks the
 -- limit. For the source it is 0."
@@ -151,18 +153,18 @@ pub record MarginAsStated (n : Net) (t : Tree) (post : ℕ) (z : ℤ) : Type 0 w
 
 -- DRAWN RUNS: "Round each drawn value up to the next whole sixteenth."
 pub record DrawnAsStated : Type 0 where
-  pub straight : (x : Float) {a : Drawn} → a ≡ drawn_of (Straight x) → (k : ℕ) → (drawn_says a ≡ sixteenths k) ↔ Long x k
-  pub corner : (x y : Float) {a : Drawn} → a ≡ drawn_of (Corner x y) → (k : ℕ) → (drawn_says a ≡ sixteenths k)
+  pub straight : (x : Float) {a : Result ℕ Refusal} → a ≡ drawn_of (Straight x) → (k : ℕ) → (drawn_says a ≡ sixteenths k) ↔ Long x k
+  pub corner : (x y : Float) {a : Result ℕ Refusal} → a ≡ drawn_of (Corner x y) → (k : ℕ) → (drawn_says a ≡ sixteenths k)
       ↔ BothLong x y k
   -- "the answer is at least 16 times the exact length and less than 1 above it, and for a corner less than 2 above it,
   -- over whole numbers from the bits": of the floats ±m * 2 ^ e and ±n * 2 ^ f
-  pub straight_within : (s : Bool) (m : ℕ) (e : ℤ) {a : Drawn} → a ≡ drawn_of (Straight (fin s m e)) → (k : ℕ)
+  pub straight_within : (s : Bool) (m : ℕ) (e : ℤ) {a : Result ℕ Refusal} → a ≡ drawn_of (Straight (fin s m e)) → (k : ℕ)
       → drawn_says a ≡ sixteenths k → RoundsTo m e k
-  pub corner_within : (s t : Bool) (m n : ℕ) (e f : ℤ) {a : Drawn} → a ≡ drawn_of (Corner (fin s m e) (fin t n f))
+  pub corner_within : (s t : Bool) (m n : ℕ) (e f : ℤ) {a : Result ℕ Refusal} → a ≡ drawn_of (Corner (fin s m e) (fin t n f))
       → (k : ℕ) → drawn_says a ≡ sixteenths k → WithinTwo m e n f k
   -- a whole number of sixteenths stays what it is
   pub whole_same : (m : ℕ) (e : ℤ) (k : ℕ) → AreSixteenths m e k → 1 ≤ k → k ≤ most
-      → {a : Drawn} → a ≡ drawn_of (Straight (fin false m e)) → drawn_says a ≡ sixteenths k
+      → {a : Result ℕ Refusal} → a ≡ drawn_of (Straight (fin false m e)) → drawn_says a ≡ sixteenths k
 
 -- THE PROGRAM: "reads one record from standard input and prints the trees, or the one line of a refusal"
 pub record ProgramAsStated : Type 2 where
@@ -201,20 +203,19 @@ pub record MoveProgramAsStated : Type 2 where
 pub record Demand2 : Type 2 where
   -- over a lent list of segments
   pub build : Says entry.build
-      (λ κs (h, (p, (q, (segments, (l, (s, (w, _))))))) a (_, (_, (_, (_, (l', (s', (w', _))))))).
+      (λ κs (h, (own, (segments, (l, (s, (w, _)))))) a (_, (_, (_, (l', (s', (w', _)))))).
       (x y z : Measured) (k : ℕ) → says_of a ≡ built x y z k
-      → BuiltAsStated (net_on h p.now q.now segments.now) l.now s.now w.now l' s' w' x y z k)
-  pub margin : Says entry.margin (λ κs (h, (p, (q, (segments, (t, (post, _)))))) a _.
+      → BuiltAsStated (net_on h own.p.now own.q.now segments.now) l.now s.now w.now l' s' w' x y z k)
+  pub margin : Says entry.margin (λ κs (h, (own, (segments, (t, (post, _))))) a _.
       (z : ℤ) → margin_says_of a ≡ B.MarginAnswer.margin z
-      → MarginAsStated (net_on h p.now q.now segments.now) t post z)
+      → MarginAsStated (net_on h own.p.now own.q.now segments.now) t post z)
   -- over plain lists
   pub build_lists : Says entry.build_lists
-      (λ κs (h, (p, (q, (a, (b, (lengths, (l, (s, (w, _)))))))))
-      r (_, (_, (_, (_, (_, (_, (l', (s', (w', _))))))))).
+      (λ κs (net, (l, (s, (w, _)))) r (_, (l', (s', (w', _)))).
       (x y z : Measured) (k : ℕ) → says_of r ≡ built x y z k
-      → BuiltAsStated (net_by h p q a b lengths) l.now s.now w.now l' s' w' x y z k)
-  pub margin_lists : Says entry.margin_lists (λ κs (h, (p, (q, (a, (b, (lengths, (t, (post, _)))))))) r _.
-      (z : ℤ) → margin_says_of r ≡ B.MarginAnswer.margin z → MarginAsStated (net_by h p q a b lengths) t post z)
+      → BuiltAsStated (net_in net) l.now s.now w.now l' s' w' x y z k)
+  pub margin_lists : Says entry.margin_lists (λ κs (net, (t, (post, _))) r _.
+      (z : ℤ) → margin_says_of r ≡ B.MarginAnswer.margin z → MarginAsStated (net_in net) t post z)
   -- on records
   pub plan : Says entry.plan (λ κs (bytes, (l, (s, (w, _)))) a (_, (l', (s', (w', _)))).
       (q : Plan) → says_planned a ≡ result q → PlannedAsStated bytes.now l.now s.now w.now l' s' w' q)

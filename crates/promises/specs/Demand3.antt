@@ -9,13 +9,14 @@ use Rattle.net.specs.declared.Measured.{Measured}
 use Rattle.net.specs.Net.{Net, every, length_at, Route, route_length, weigh, set_length, JoinsAll, SpanningTree}
 use Rattle.net.specs.Trees.{at, IsLeast, IsTree, the_path_in, whole}
 use Rattle.net.specs.Building.{p_of, q_of, SmallestOf, built, lightest_of, least_lengths_of, laid_of}
-use Rattle.net.specs.Ready.{net_by}
+use Rattle.net.specs.Ready.{net_in}
 use Rattle.crossings.specs.Lists.{net_on}
 use Rattle.building.specs.Answers.{says_of}
 use Rattle.numbers.specs.Numbers.{got}
 use Rattle.writing.specs.Answers.{result}
 use Rattle.on_records.specs.Asked.{record_read}
-use Rattle.on_records.specs.Says.{Plan, says_planned}
+use Rattle.net.specs.declared.Plan.{Plan}
+use Rattle.on_records.specs.Says.{says_planned}
 use Rattle.promises.specs.Promised.{Says}
 use Rattle.promises.specs.Entries as entry
 
@@ -58,16 +59,16 @@ pub record LengthWithin (n : Net) (z : ℕ) : Type 0 where
 
 -- WHERE BUILDING SAYS BUILT, by its own contract
 pub record Demand3 : Type 2 where
-  pub build : Says entry.build (λ κs (h, (p, (q, (segments, _)))) a (_, (_, (_, (_, (_, (_, (w, _))))))).
+  pub build : Says entry.build (λ κs (h, (own, (segments, _))) a (_, (_, (_, (_, (_, (w, _)))))).
       (x y z : Measured) (k : ℕ) → says_of a ≡ built x y z k
-      → Bounds (net_on h p.now q.now segments.now) (take h.posts w)
-      × LengthWithin (net_on h p.now q.now segments.now) z.length)
+      → Bounds (net_on h own.p.now own.q.now segments.now) (take h.posts w)
+      × LengthWithin (net_on h own.p.now own.q.now segments.now) z.length)
   -- over plain lists
   pub build_lists : Says entry.build_lists
-      (λ κs (h, (p, (q, (a, (b, (lengths, _)))))) r (_, (_, (_, (_, (_, (_, (_, (_, (w, _))))))))).
+      (λ κs (net, _) r (_, (_, (_, (w, _)))).
       (x y z : Measured) (k : ℕ) → says_of r ≡ built x y z k
-      → Bounds (net_by h p q a b lengths) (take h.posts w) × LengthWithin (net_by h p q a b lengths) z.length)
+      → Bounds (net_in net) (take net.head.posts w) × LengthWithin (net_in net) z.length)
   -- and of a record that was planned
   pub plan : Says entry.plan (λ κs (bytes, _) a (_, (_, (_, (w, _)))).
       (q : Plan) → says_planned a ≡ result q → (n : Net) (next : ℕ) → record_read bytes.now ≡ got n next
-      → Bounds n (take n.head.posts w) × LengthWithin n q.between.length)
+      → Bounds n (take n.head.posts w) × LengthWithin n q.built.between.length)

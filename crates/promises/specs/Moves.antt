@@ -12,9 +12,10 @@ use Rattle.net.specs.declared.Tree.{Tree}
 use Rattle.numbers.specs.Numbers.{Bytes, got}
 use Rattle.numbers.specs.Putting.{onto}
 use Rattle.writing.specs.Answers.{result, refusal_of, says_written}
-use Rattle.writing.specs.declared.WriteAnswer.{WriteAnswer}
 use Rattle.on_records.specs.Asked.{record_read}
 use Rattle.moves.specs.Moves.{the_head_in, in_form, ToSecond, ToFirst}
+use Rattle.net.specs.declared.Refusal.{Refusal}
+use Rattle.std.specs.Prelude.{Result}
 
 -- every post but the source has the house p and q, "as numbers"
 abbrev pub AllAsHouse : Net → Type 0
@@ -22,7 +23,7 @@ AllAsHouse n = (v : ℕ) → v < n.head.posts → (v ≡ n.head.source → ⊥)
     → (p_of n v ≡ n.head.p) × (q_of n v ≡ n.head.q)
 
 -- "Back is possible exactly if ..": of a record of the second form, 20 is not given exactly if they are equal
-abbrev pub BackExactly : List ℕ → WriteAnswer → Type 0
+abbrev pub BackExactly : List ℕ → Result ℕ Refusal → Type 0
 BackExactly bytes a = (n : Net) (next : ℕ) → record_read bytes ≡ got n next → n.head.form ≡ Second
     → ((v : ℕ) → says_written a ≡ refusal_of (refusal 20 v) → ⊥) ↔ AllAsHouse n
 
@@ -52,11 +53,11 @@ pub record MovedAsStated (wanted : Form) (bytes room : List ℕ) (size : ℕ) (x
 
 -- THERE AND BACK, whatever the two rooms hold
 pub record MovesBothWays : Type 0 where
-  pub forward_then_back : (bytes room room₂ : List ℕ) {a b : WriteAnswer} {size : ℕ} {x y : List ℕ} → Bytes bytes
+  pub forward_then_back : (bytes room room₂ : List ℕ) {a b : Result ℕ Refusal} {size : ℕ} {x y : List ℕ} → Bytes bytes
       → ToSecond bytes room a x → says_written a ≡ result size
       → ToFirst (take size x) room₂ b y → length bytes ≤ length room₂
       → (says_written b ≡ result (length bytes)) × (y ≡ onto bytes room₂)
-  pub back_then_forward : (bytes room room₂ : List ℕ) {a b : WriteAnswer} {size : ℕ} {x y : List ℕ} → Bytes bytes
+  pub back_then_forward : (bytes room room₂ : List ℕ) {a b : Result ℕ Refusal} {size : ℕ} {x y : List ℕ} → Bytes bytes
       → ToFirst bytes room a x → says_written a ≡ result size
       → ToSecond (take size x) room₂ b y → length bytes ≤ length room₂
       → (says_written b ≡ result (length bytes)) × (y ≡ onto bytes room₂)

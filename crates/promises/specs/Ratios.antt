@@ -9,9 +9,10 @@ use Rattle.net.specs.declared.Head.{Head}
 use Rattle.net.specs.declared.Segment.{Segment}
 use Rattle.crossings.specs.Lists.{net_on}
 use Rattle.building.specs.Answers.{Leaves}
-use Rattle.building.specs.declared.Answer.{Answer}
 use Rattle.writing.specs.Answers.{result, says_written, Writes}
-use Rattle.writing.specs.declared.WriteAnswer.{WriteAnswer}
+use Rattle.building.specs.Answers.{Answer}
+use Rattle.net.specs.declared.Refusal.{Refusal}
+use Rattle.std.specs.Prelude.{Result}
 
 -- what stands at a post's place of a lent list
 abbrev pub number_at : List ℕ → ℕ → ℕ
@@ -38,7 +39,7 @@ pub record ScaledAsStated (h h₂ : Head) (p q p₂ q₂ : List ℕ) (segments :
       → Leaves (net_on h p q segments) (length segments) (length (ratios_of p q)) l s w a l' s' w'
       → Leaves (net_on h₂ p₂ q₂ segments) (length segments) (length (ratios_of p₂ q₂)) l s w b l₂ s₂ w₂
       → (a ≡ b) × (l' ≡ l₂) × (s' ≡ s₂) × (w' ≡ w₂)
-  pub different_records : apart → (room room₂ : List ℕ) {a b : WriteAnswer} {size size₂ : ℕ} {x y : List ℕ}
+  pub different_records : apart → (room room₂ : List ℕ) {a b : Result ℕ Refusal} {size size₂ : ℕ} {x y : List ℕ}
       → Writes (net_on h p q segments) (length segments) (length (ratios_of p q)) room a x
       → says_written a ≡ result size
       → Writes (net_on h₂ p₂ q₂ segments) (length segments) (length (ratios_of p₂ q₂)) room₂ b y

@@ -12,11 +12,12 @@ use Rattle.crossings.specs.Lists.{net_on}
 use Rattle.numbers.specs.Numbers.{Bytes}
 use Rattle.numbers.specs.Putting.{onto}
 use Rattle.reading.specs.Answers.{says_by}
-use Rattle.reading.specs.declared.ReadAnswer.{ReadAnswer}
 use Rattle.writing.specs.Answers.{result, says_written, Writes}
-use Rattle.writing.specs.declared.WriteAnswer.{WriteAnswer}
 use Rattle.on_segments.specs.Reading.{Reads}
 use Rattle.promises.specs.Ratios.{number_at}
+use Rattle.net.specs.declared.Counted.{Counted}
+use Rattle.net.specs.declared.Refusal.{Refusal}
+use Rattle.std.specs.Prelude.{Result}
 
 -- a lent list of the posts' numbers that held `before`, once a record of the net n was read into it: in the second form
 -- each post but the source has its `number` there; the source's place, all places beyond the posts, and in the first
@@ -31,7 +32,7 @@ pub record LaidAs (n : Net) (number : ℕ → ℕ) (before now : List ℕ) : Typ
 
 -- a net n was read into lists that held p, q and l: the answer b, with what the lists hold then, says it; its segments
 -- stand at the front of one list, and the numbers ps and qs of its posts in the other two
-pub record ReadAs (n : Net) (ps qs : ℕ → ℕ) (p q : List ℕ) (l : List Segment) (b : ReadAnswer)
+pub record ReadAs (n : Net) (ps qs : ℕ → ℕ) (p q : List ℕ) (l : List Segment) (b : Result Counted Refusal)
     (p' q' : List ℕ) (l' : List Segment) : Type 0 where
   pub says : says_by b (ratios_of p' q') l' ≡ result n
   pub segments_laid : l' ≡ n.segments ++ drop (length n.segments) l
@@ -41,36 +42,36 @@ pub record ReadAs (n : Net) (ps qs : ℕ → ℕ) (p q : List ℕ) (l : List Seg
 pub record RecordsBothWays : Type 0 where
   -- what was written reads as the same net, with the numbers of the lists that it was written from, laid into any lists
   -- that are long enough
-  pub written_then_read : (h : Head) (p q : List ℕ) (segments : List Segment) (room : List ℕ) {a : WriteAnswer}
+  pub written_then_read : (h : Head) (p q : List ℕ) (segments : List Segment) (room : List ℕ) {a : Result ℕ Refusal}
       {size : ℕ} {x : List ℕ} → Writes (net_on h p q segments) (length segments) (length (ratios_of p q)) room a x
       → says_written a ≡ result size
-      → (p₂ q₂ : List ℕ) (l : List Segment) {b : ReadAnswer} {p' q' : List ℕ} {l' : List Segment}
+      → (p₂ q₂ : List ℕ) (l : List Segment) {b : Result Counted Refusal} {p' q' : List ℕ} {l' : List Segment}
       → h.posts ≤ length p₂ → h.posts ≤ length q₂ → length segments ≤ length l
       → Reads (take size x) p₂ q₂ l b p' q' l'
       → ReadAs (net_on h p q segments) (number_at p) (number_at q) p₂ q₂ l b p' q' l'
   -- what was read stands in the lists
-  pub read_stands : (bytes p q : List ℕ) (l : List Segment) {a : ReadAnswer} {p' q' : List ℕ} {l' : List Segment}
+  pub read_stands : (bytes p q : List ℕ) (l : List Segment) {a : Result Counted Refusal} {p' q' : List ℕ} {l' : List Segment}
       {n : Net} → Reads bytes p q l a p' q' l' → says_by a (ratios_of p' q') l' ≡ result n
       → ReadAs n (p_of n) (q_of n) p q l a p' q' l'
   -- and is written again byte for byte, where k ratios are lent, one for each post, into any room that is long enough
-  pub read_then_written : (bytes p q : List ℕ) (l : List Segment) {a : ReadAnswer} {p' q' : List ℕ}
+  pub read_then_written : (bytes p q : List ℕ) (l : List Segment) {a : Result Counted Refusal} {p' q' : List ℕ}
       {l' : List Segment} {n : Net} → Bytes bytes → Reads bytes p q l a p' q' l'
       → says_by a (ratios_of p' q') l' ≡ result n
-      → (k : ℕ) (room : List ℕ) {b : WriteAnswer} {x : List ℕ} → n.head.posts ≤ k → length bytes ≤ length room
+      → (k : ℕ) (room : List ℕ) {b : Result ℕ Refusal} {x : List ℕ} → n.head.posts ≤ k → length bytes ≤ length room
       → Writes n (length n.segments) k room b x
       → (says_written b ≡ result (length bytes)) × (x ≡ onto bytes room)
   -- two records of one net are equal
-  pub one_record : (b c p q p₂ q₂ : List ℕ) (l m : List Segment) {a a₂ : ReadAnswer} {p' q' p₃ q₃ : List ℕ}
+  pub one_record : (b c p q p₂ q₂ : List ℕ) (l m : List Segment) {a a₂ : Result Counted Refusal} {p' q' p₃ q₃ : List ℕ}
       {l' m' : List Segment} {n : Net} → Bytes b → Bytes c
       → Reads b p q l a p' q' l' → says_by a (ratios_of p' q') l' ≡ result n
       → Reads c p₂ q₂ m a₂ p₃ q₃ m' → says_by a₂ (ratios_of p₃ q₃) m' ≡ result n → b ≡ c
   -- and two nets of one record are
-  pub one_net : (h h₂ : Head) (p q p₂ q₂ : List ℕ) (ss ss₂ : List Segment) (room room₂ : List ℕ) {a b : WriteAnswer}
+  pub one_net : (h h₂ : Head) (p q p₂ q₂ : List ℕ) (ss ss₂ : List Segment) (room room₂ : List ℕ) {a b : Result ℕ Refusal}
       {size size₂ : ℕ} {x y : List ℕ}
       → Writes (net_on h p q ss) (length ss) (length (ratios_of p q)) room a x → says_written a ≡ result size
       → Writes (net_on h₂ p₂ q₂ ss₂) (length ss₂) (length (ratios_of p₂ q₂)) room₂ b y → says_written b ≡ result size₂
       → take size x ≡ take size₂ y → net_on h p q ss ≡ net_on h₂ p₂ q₂ ss₂
   -- a record of the first form leaves both lists of ratios as they were
-  pub first_form : (bytes p q : List ℕ) (l : List Segment) {a : ReadAnswer} {p' q' : List ℕ} {l' : List Segment}
+  pub first_form : (bytes p q : List ℕ) (l : List Segment) {a : Result Counted Refusal} {p' q' : List ℕ} {l' : List Segment}
       {n : Net} → Reads bytes p q l a p' q' l' → says_by a (ratios_of p' q') l' ≡ result n → n.head.form ≡ First
       → (p' ≡ p) × (q' ≡ q)

@@ -6,7 +6,7 @@
 use Rattle.std.specs.Prelude.{◌≡◌, length}
 use denote.Ref.{at_last}
 use Rattle.net.specs.Net.{every, most_posts, most_segments, own_of}
-use Rattle.net.specs.Ready.{net_by, ratios_by, segments_by, ratio_count_by, count_by}
+use Rattle.net.specs.Ready.{net_in, ratios_in, segments_in, ratio_count_in, count_in}
 use Rattle.net.specs.Refusals.{checked_of, first, head_lines, ratio_lines, own_lines, segment_lines, check_of}
 use Rattle.net.specs.Building.{margin_of}
 use Rattle.net.specs.declared.Form.TheVariants.{First, Second}
@@ -40,14 +40,14 @@ pub record Keeps (f : Function) (Φ : (κs : Times f) (x : Handed f κs) → Ans
 pub record Tied : Type 2 where
   -- over a lent list of segments
   pub build : Keeps entry.build
-      (λ κs (h, (p, (q, (segments, (l, (s, (w, _))))))) a (_, (_, (_, (_, (l', (s', (w', _))))))).
-      Leaves (net_on h p.now q.now segments.now) (length segments.now) (ratio_count_by p q)
+      (λ κs (h, (own, (segments, (l, (s, (w, _)))))) a (_, (_, (_, (l', (s', (w', _)))))).
+      Leaves (net_on h own.p.now own.q.now segments.now) (length segments.now) (ratio_count_in own)
       l.now s.now w.now a l' s' w')
-  pub margin : Keeps entry.margin (λ κs (h, (p, (q, (segments, (tree, (post, _)))))) a _.
-      a ≡ margin_answer_of (margin_of every (net_on h p.now q.now segments.now) (length segments.now)
-      (ratio_count_by p q) tree post))
-  pub write : Keeps entry.write (λ κs (h, (p, (q, (segments, (room, _))))) a (_, (_, (_, (_, (room', _))))).
-      Writes (net_on h p.now q.now segments.now) (length segments.now) (ratio_count_by p q) room.now a room')
+  pub margin : Keeps entry.margin (λ κs (h, (own, (segments, (tree, (post, _))))) a _.
+      a ≡ margin_answer_of (margin_of every (net_on h own.p.now own.q.now segments.now) (length segments.now)
+      (ratio_count_in own) tree post))
+  pub write : Keeps entry.write (λ κs (h, (own, (segments, (room, _)))) a (_, (_, (_, (room', _)))).
+      Writes (net_on h own.p.now own.q.now segments.now) (length segments.now) (ratio_count_in own) room.now a room')
   pub read : Keeps entry.read (λ κs (bytes, (p, (q, (l, _)))) a (_, (p', (q', (l', _)))).
       Reads bytes.now p.now q.now l.now a p' q' l')
   pub drawn : Keeps entry.drawn (λ κs (run, _) a _. a ≡ drawn_of run)
@@ -83,14 +83,13 @@ pub record Tied : Type 2 where
       HandsOn way input.now n out.now r out')
   -- over plain lists
   pub build_lists : Keeps entry.build_lists
-      (λ κs (h, (p, (q, (a, (b, (lengths, (l, (s, (w, _)))))))))
-      r (_, (_, (_, (_, (_, (_, (l', (s', (w', _))))))))).
-      Leaves (net_by h p q a b lengths) (count_by a b lengths) (ratio_count_by p q) l.now s.now w.now r l' s' w')
-  pub margin_lists : Keeps entry.margin_lists (λ κs (h, (p, (q, (a, (b, (lengths, (tree, (post, _)))))))) r _.
-      r ≡ margin_answer_of (margin_of every (net_by h p q a b lengths) (count_by a b lengths) (ratio_count_by p q) tree post))
+      (λ κs (net, (l, (s, (w, _)))) r (_, (l', (s', (w', _)))).
+      Leaves (net_in net) (count_in net.segments) (ratio_count_in net.own) l.now s.now w.now r l' s' w')
+  pub margin_lists : Keeps entry.margin_lists (λ κs (net, (tree, (post, _))) r _.
+      r ≡ margin_answer_of (margin_of every (net_in net) (count_in net.segments) (ratio_count_in net.own) tree post))
   pub write_lists : Keeps entry.write_lists
-      (λ κs (h, (p, (q, (a, (b, (lengths, (room, _))))))) r (_, (_, (_, (_, (_, (_, (room', _))))))).
-      Writes (net_by h p q a b lengths) (count_by a b lengths) (ratio_count_by p q) room.now r room')
+      (λ κs (net, (room, _)) r (_, (room', _)).
+      Writes (net_in net) (count_in net.segments) (ratio_count_in net.own) room.now r room')
   pub read_lists : Keeps entry.read_lists
       (λ κs (bytes, (p, (q, (a, (b, (lengths, _)))))) r (_, (p', (q', (a', (b', (lengths', _)))))).
       ReadsLists bytes.now p.now q.now a.now b.now lengths.now r p' q' a' b' lengths')
@@ -109,12 +108,12 @@ pub record Tied : Type 2 where
   pub check_head : Keeps entry.check_head (λ κs (h, (count, _)) r _. r ≡ checked_of (first (head_lines h count)))
   pub check_ratio : Keeps entry.check_ratio (λ κs (p, (q, (v, _))) r _.
       r ≡ checked_of (first (ratio_lines v (record { p = p; q = q }))))
-  pub check_own : Keeps entry.check_own (λ κs (h, (p, (q, _))) r _.
-      r ≡ checked_of (first (own_lines h (own_of h (ratios_by p q)))))
+  pub check_own : Keeps entry.check_own (λ κs (h, (own, _)) r _.
+      r ≡ checked_of (first (own_lines h (own_of h (ratios_in own)))))
   pub check_numbers : Keeps entry.check_numbers (λ κs (posts, (a, (b, (l, (i, _))))) r _.
       r ≡ checked_of (first (segment_lines posts (record { a = a; b = b; length = l }) i)))
   pub check_segment : Keeps entry.check_segment (λ κs (posts, (s, (i, _))) r _.
       r ≡ checked_of (first (segment_lines posts s i)))
-  pub check : Keeps entry.check (λ κs (h, (p, (q, (a, (b, (lengths, _)))))) r _.
-      r ≡ check_of h (ratios_by p q) (segments_by a b lengths))
-  pub segment_count : Keeps entry.segment_count (λ κs (a, (b, (lengths, _))) r _. r ≡ length (segments_by a b lengths))
+  pub check : Keeps entry.check (λ κs (net, _) r _.
+      r ≡ check_of net.head (ratios_in net.own) (segments_in net.segments))
+  pub segment_count : Keeps entry.segment_count (λ κs (segments, _) r _. r ≡ count_in segments)

@@ -1,7 +1,7 @@
 -- How long a record is: the longest good record has 15,367 bytes, and 15,372 bytes of a longer input are enough for the reader's answer on the whole.
 -- Relies on RoundTrip, Steps, OneByOne and Passes, and on writing's Lines and Puts.
 use Prim.Native.Nat.{ℕ, zero, suc, ◌+◌, ◌*◌, ◌-◌, ◌<◌, ◌≤◌}
-use mathlib.Core.Bool.{Bool, true, false, cond}
+use mathlib.Core.Bool.{Bool, true, false}
 use mathlib.Core.Path.{◌≡◌, refl, sym, ap, ◌∙◌}
 use mathlib.Core.List.{List, [], ◌∷◌, ◌++◌}
 use mathlib.Core.Option.{Option, none, some}
@@ -19,9 +19,7 @@ use Rattle.net.specs.declared.Form.TheVariants.{First, Second}
 use Rattle.net.specs.declared.Head.{Head}
 use Rattle.net.specs.declared.Refusal.{Refusal}
 use Rattle.numbers.specs.Numbers.{Bytes, Got, got, refused, groups, written, groups_at, number}
-use Rattle.numbers.specs.Answers.{numbered_of}
-use Rattle.reading.specs.Reading.{longest_record, enough_bytes, Reading, and_then, unless, hold, Heading, room_lines, triple, headed, heading, ratio, post, posts, own_in, the_own_read, segment, segments, ended, last_read, rest_read, net_read}
-use Rattle.reading.specs.Answers.{form_said, form_ends}
+use Rattle.reading.specs.Reading.{longest_record, enough_bytes, Reading, and_then, unless, hold, Heading, room_lines, triple, formed, headed, heading, ratio, post, posts, own_in, the_own_read, segment, segments, ended, last_read, rest_read, net_read}
 use Rattle.writing.specs.Writing as W
 use Rattle.writing.specs.Writing.{form_written, head_written, ratio_written, post_written, posts_written, own_written, segment_written, segments_written, net_written}
 use Rattle.numbers.proofs.Groups.{number_next}
@@ -30,7 +28,7 @@ use Rattle.numbers.proofs.Loops.{two_bytes, three_bytes}
 use Rattle.writing.proofs.Lines.{head_sound, ratio_sound, segment_sound}
 use Rattle.writing.proofs.Puts.{head_length, numbers_length, segment_length}
 use Rattle.writing.proofs.Posts.{source_written, post_written_law}
-use Rattle.reading.proofs.Steps.{triple_next, segment_by, headed_by, heading_begins, ratio_is, segment_is}
+use Rattle.reading.proofs.Steps.{triple_next, segment_by, headed_by, heading_by, formed_next, ratio_is, segment_is}
 use Rattle.reading.proofs.OneByOne.{segments_one_by_one, row_count}
 use Rattle.reading.proofs.Passes.{at_source, not_source, net_by}
 use Rattle.reading.proofs.RoundTrip.{Kept, OwnIs, own_is, heading_run, segment_run, segments_run, segments_sound, written_of_read}
@@ -200,16 +198,14 @@ module _ (bytes : List ℕ) (l : ℕ) (longer : l ≤ length bytes) where
       (then_same (number bytes i) _ _ (λ b j f. (let q = number_next bytes i b j f in
       rw (number_cut j (omega arith))))))))
 
-  heading_cut : 24 ≤ l → heading cut 0 ≡ heading bytes 0
-  heading_cut h = heading_begins cut ∙ rw (number_cut 0 (omega arith)) (headed_cut (form_said (numbered_of (number bytes 0))) (form_ends (numbered_of (number bytes 0))) (near (number bytes 0) refl)) ∙ sym (heading_begins bytes)
-    where
-      by_value : (n i : ℕ) → number bytes 0 ≡ got n i → (b : Bool) → cond b i 0 + 20 ≤ l
-      by_value n i e true = omega (arith, number_next bytes 0 n i e)
-      by_value n i e false = omega arith
+  formed_cut : 4 ≤ l → formed cut 0 ≡ formed bytes 0
+  unfolding formed
+  formed_cut h = rw (number_cut 0 (omega arith))
 
-      near : (g : Got ℕ) → number bytes 0 ≡ g → form_ends (numbered_of g) + 20 ≤ l
-      near (got n i) e = by_value n i e (eqb n 0)
-      near (refused r) e = omega arith
+  heading_cut : 24 ≤ l → heading cut 0 ≡ heading bytes 0
+  heading_cut h =
+      rw (heading_by cut 0, heading_by bytes 0, formed_cut (omega arith))
+      (then_same (formed bytes 0) _ _ (λ f i e. headed_cut f i (omega (arith, formed_next bytes 0 f i e))))
 
   ratio_cut : (v at : ℕ) → at + 8 ≤ l → ratio cut v at ≡ ratio bytes v at
   unfolding ratio

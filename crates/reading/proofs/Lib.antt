@@ -2,9 +2,9 @@
 -- promises cite; the others are what the proofs of the functions and those four stand on.
 pub mod Steps
 pub mod Carried
+pub mod Carrying
 pub mod OneByOne
 pub mod Passes
-pub mod Turns
 pub mod Owned
 pub mod Stored
 pub mod Laid

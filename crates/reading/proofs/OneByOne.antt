@@ -1,22 +1,16 @@
 -- Things that are read one by one, each beginning where the one before it ends: segments, and the posts' own ratios. What several that were read are (`FirstOf`); behind
 -- some the reading of more goes on (`GoesOn`); a loop reads them into lists turn by turn (`Turn`); a row of so many is whole or stops at one (`Outcome`). Relies on Steps
--- and on the definitions of specs/Reading and specs/Turns.
+-- and on the definitions of specs/Reading.
 use Prim.Native.Nat.{ℕ, zero, suc, ◌+◌, ◌*◌, ◌-◌, ◌<◌, ◌≤◌}
 use mathlib.Core.Path.{◌≡◌, refl, sym, ap, ◌∙◌}
 use mathlib.Core.List.{List, [], ◌∷◌, ◌++◌, append_assoc, append-nil}
-use mathlib.Core.Bool.{true, false}
 use native.Mathlib.Nat.{zero-add, mul-suc}
 use native.Mathlib.Numerals.{add-one}
 use native.Mathlib.Omega.{arith}
 use lib.ListN.{length, length-append}
-use borrow.Author.Tests.{ltb-true, ltb-false}
-use Rattle.net.specs.declared.Checked.{Checked}
-use Rattle.net.specs.declared.Checked.TheVariants.{Sound, Refused as Unsound}
 use Rattle.net.specs.declared.Refusal.{Refusal}
 use Rattle.numbers.specs.Numbers.{Got, got, refused}
 use Rattle.reading.specs.Reading.{Reading, and_then, post, posts, segment, segments}
-use Rattle.reading.specs.Turns.{does_go_on, row_said, row_up_to}
-use Rattle.reading.specs.declared.RowRead.TheVariants.{Refused as RowRefused}
 use Rattle.reading.proofs.Steps.{handed}
 
 -- `many i k` reads k of the things that `one` reads, the first of them number i
@@ -102,86 +96,44 @@ module _ {X : Type 0} {one : ℕ → Reading X} {many : ℕ → ℕ → Reading 
         let n : length xs + suc (count - length xs - 1) ≡ count = omega arith in
         (rw n at (s.on (suc (count - length xs - 1)))) ∙ rw (o.one_more (length xs) (count - length xs - 1) at, e)
 
--- A LOOP reads `count` of them from `at` on, behind what was said before, into lists: `Long` says how long the lists are, `Holds xs` that xs stand in them; they have `most`
--- places, and each thing takes at most `wide` bytes
-module _ {X : Type 0} {one : ℕ → Reading X} {many : ℕ → ℕ → Reading (List X)} (o : OneByOne one many) (most wide : ℕ) (before : Checked) (count at : ℕ) where
-  -- nothing was refused: i were read, up to a place, and stand in the lists
-  pub record Passing (place i : ℕ) (Holds : List X → Type 0) : Type 0 where
-    pub sound : before ≡ Sound
-    pub within : i ≤ count
+-- A LOOP reads them from `at` on, one in each turn, into lists: each takes at most `wide` bytes, and `Holds xs` says that xs stand in the lists
+module _ {X : Type 0} {one : ℕ → Reading X} {many : ℕ → ℕ → Reading (List X)} (o : OneByOne one many) (wide at : ℕ) where
+  -- i were read, up to a place, and stand in the lists
+  pub record Turn (place i : ℕ) (Holds : List X → Type 0) : Type 0 where
+    pub near : place ≤ at + wide * i
     pub xs : List X
     pub long : length xs ≡ i
     pub goes : GoesOn o at xs place
     pub held : Holds xs
 
-  -- a refusal is what was said before, or the row's
-  abbrev pub Stands : Checked → ℕ → ℕ → (List X → Type 0) → Type 0
-  Stands Sound place i Holds = Passing place i Holds
-  Stands (Unsound r) place i Holds = row_said before (many 0 count at) ≡ RowRefused r
+  pub turn_first : {Holds : List X → Type 0} → Holds [] → Turn at 0 Holds
+  turn_first h = record { near = omega arith; xs = []; long = refl; goes = goes_first o at; held = h }
 
-  pub record Turn (says : Checked) (place i : ℕ) (Long : Type 0) (Holds : List X → Type 0) : Type 0 where
-    pub few : i ≤ most
-    pub near : place ≤ at + wide * i
-    pub long : Long
-    pub stands : Stands says place i Holds
+  module _ {place i : ℕ} {Holds : List X → Type 0} (t : Turn place i Holds) where
+    pub turn_next : {x : X} {next : ℕ} → one i place ≡ got x next → next ≤ place + wide
+        → {Holds' : List X → Type 0} → ((xs : List X) → length xs ≡ i → Holds xs → Holds' (xs ++ (x ∷ []))) → Turn next (i + 1) Holds'
+    turn_next {x} e reach h =
+        let n = t.long in
+        record {
+          near = rw add-one (omega (arith, mul-suc wide i, t.near));
+          xs = t.xs ++ (x ∷ []);
+          long = length-append t.xs (x ∷ []) ∙ rw n;
+          goes = goes_next o at t.goes (rw n e);
+          held = h t.xs n t.held;
+        }
 
-  pub turns_begin : {Long : Type 0} {Holds : List X → Type 0} → Long → Holds [] → Turn before at 0 Long Holds
-  turns_begin {Holds = Holds} l h = record { few = omega arith; near = omega arith; long = l; stands = go before refl }
-    where
-      go : (c : Checked) → before ≡ c → Stands c at 0 Holds
-      go Sound e = record { sound = e; within = omega arith; xs = []; long = refl; goes = goes_first o at; held = h }
-      go (Unsound r) e = rw e
+    -- where one is refused, that is the row's refusal
+    pub turn_stops : {count : ℕ} {r : Refusal} → i < count → one i place ≡ refused r → many 0 count at ≡ refused r
+    turn_stops l e = let n = t.long in goes_stops o at t.goes (omega arith) (rw n e)
 
-  -- the answer is the row's, and what was read stands in the lists
-  pub record TurnsEnd (says : Checked) (place : ℕ) (Holds : List X → Type 0) : Type 0 where
-    pub answers : row_up_to says place ≡ row_said before (many 0 count at)
-    pub held : before ≡ Sound → (xs : List X) (next : ℕ) → many 0 count at ≡ got xs next → Holds xs
+    -- after the last one, the row was read
+    pub turn_all : {count : ℕ} → i ≡ count → many 0 count at ≡ got t.xs place
+    turn_all e = rw (t.long ∙ e) at (goes_all o at t.goes)
 
-  module _ (enough : before ≡ Sound → count ≤ most) {place i : ℕ} {Long : Type 0} {Holds : List X → Type 0} where
-    -- where a turn is taken, nothing was refused, and there is a place in the lists
-    pub turn_asks : (says : Checked) → Turn says place i Long Holds → does_go_on says i count ≡ true → (before ≡ Sound) × (i < most)
-    turn_asks Sound t more = let e = t.stands.sound in (e, omega (arith, enough e, ltb-true i count more))
-    turn_asks (Unsound r) t more = let z : ◌≡◌ {A = ℕ} 0 1 = cc in absurd (omega arith)
-
-    module _ {Long' : Type 0} {Holds' : List X → Type 0} where
-      pub turn_next : (says : Checked) → Turn says place i Long Holds → does_go_on says i count ≡ true → {x : X} {next : ℕ} → one i place ≡ got x next → next ≤ place + wide
-          → Long' → ((xs : List X) → length xs ≡ i → Holds xs → Holds' (xs ++ (x ∷ []))) → Turn Sound next (i + 1) Long' Holds'
-      turn_next Sound t more {x} e reach l h =
-          let s = t.stands in
-          let n = s.long in
-          let c = ltb-true i count more in
-          record {
-            few = omega (arith, (turn_asks Sound t more).1);
-            near = rw add-one (omega (arith, mul-suc wide i, t.near));
-            long = l;
-            stands = record {
-              sound = s.sound;
-              within = omega arith;
-              xs = s.xs ++ (x ∷ []);
-              long = length-append s.xs (x ∷ []) ∙ rw n;
-              goes = goes_next o at s.goes (rw n e);
-              held = h s.xs n s.held;
-            };
-          }
-      turn_next (Unsound r) t more e reach l h = let z : ◌≡◌ {A = ℕ} 0 1 = cc in absurd (omega arith)
-
-      pub turn_stops : (says : Checked) → Turn says place i Long Holds → does_go_on says i count ≡ true → {r : Refusal} → one i place ≡ refused r → Long' → Turn (Unsound r) place (i + 1) Long' Holds'
-      turn_stops Sound t more {r} e l =
-          let s = t.stands in
-          let n = s.long in
-          let stop : many 0 count at ≡ refused r = goes_stops o at s.goes (omega (arith, ltb-true i count more)) (rw n e) in
-          record { few = omega (arith, (turn_asks Sound t more).1); near = rw add-one (omega (arith, mul-suc wide i, t.near)); long = l; stands = rw (s.sound, stop) }
-      turn_stops (Unsound r) t more e l = let z : ◌≡◌ {A = ℕ} 0 1 = cc in absurd (omega arith)
-
-    -- where none is to be read any more, the answer is the row's
-    pub turns_end : (says : Checked) → Turn says place i Long Holds → does_go_on says i count ≡ false → TurnsEnd says place Holds
-    turns_end Sound t ends =
-        let s = t.stands in
-        let d : length s.xs ≡ count = omega (arith, s.long, s.within, ltb-false i count ends) in
-        let read = rw d at (goes_all o at s.goes) in
-        record { answers = rw (s.sound, read); held = λ e xs next f. (let same : s.xs ≡ xs = cc in rw same at s.held) }
-    turns_end (Unsound r) t ends =
-        record { answers = sym t.stands; held = λ e xs next f. (let s = t.stands in let z : ◌≡◌ {A = ℕ} 0 1 = cc in absurd (omega arith)) }
+    -- where none is to be read any more, or one is refused, the answer is the row's; what was read stands in the lists
+    pub turns_end : {count : ℕ} → (i ≡ count → (many 0 count at ≡ got t.xs place) × Holds t.xs)
+        × ((r : Refusal) → i < count → one i place ≡ refused r → many 0 count at ≡ refused r)
+    turns_end = (λ e. (turn_all e, t.held), λ r l e. turn_stops l e)
 
 -- HOW A ROW COMES OUT, of which S says that it is sound so far, and B that the next isn't
 module _ {X : Type 0} (S B : List X → ℕ → Type 0) where

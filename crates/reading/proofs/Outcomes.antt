@@ -18,16 +18,17 @@ use Rattle.numbers.specs.Numbers.{Bytes, Got, got, refused}
 use Rattle.numbers.specs.Putting.{onto}
 use Rattle.writing.specs.Writing.{the_room_after}
 use Rattle.writing.specs.Answers.{write_answer_of}
-use Rattle.writing.specs.declared.WriteAnswer.TheVariants.{Written}
+use Rattle.std.specs.Prelude.{Result, Ok}
+use Rattle.net.specs.declared.Counted.{Counted}
+use Rattle.net.specs.declared.Refusal.{Refusal}
 use Rattle.writing.proofs.Outcomes.{sound_writes}
 use Rattle.reading.specs.Reading.{net_read}
 use Rattle.reading.specs.Answers.{said_of, says_by, read_answer, list_read, laid_in, ratios_read, read_into, ReadsLists}
-use Rattle.reading.specs.declared.ReadAnswer.{ReadAnswer}
 use Rattle.reading.proofs.RoundTrip.{Kept, kept_with, sound_of_read, written_of_read}
 use Rattle.reading.proofs.Laid.{laid_length, laid_post}
 
 -- TWO OUTCOMES ARE EQUAL
-pub read_unique : (bytes p q a b l : List ℕ) (r r' : ReadAnswer) (u u' v v' x x' y y' z z' : List ℕ) → ReadsLists bytes p q a b l r u v x y z → ReadsLists bytes p q a b l r' u' v' x' y' z'
+pub read_unique : (bytes p q a b l : List ℕ) (r r' : Result Counted Refusal) (u u' v v' x x' y y' z z' : List ℕ) → ReadsLists bytes p q a b l r u v x y z → ReadsLists bytes p q a b l r' u' v' x' y' z'
     → (r ≡ r') × (u ≡ u') × (v ≡ v') × (x ≡ x') × (y ≡ y') × (z ≡ z')
 read_unique bytes p q a b l r r' u u' v v' x x' y y' z z' i j =
     (i.answers ∙ sym j.answers, i.p_is ∙ sym j.p_is, i.q_is ∙ sym j.q_is, i.a_is ∙ sym j.a_is, i.b_is ∙ sym j.b_is, i.lengths_are ∙ sym j.lengths_are)
@@ -94,7 +95,7 @@ fronts : (ss : List Segment) (a b l : List ℕ) → segments_of (map (λ s. s.a)
 fronts [] a b l = refl
 fronts (s ∷ ss) a b l = ap (λ (t : List Segment). s ∷ t) (fronts ss a b l)
 
-pub says_read : {bytes p q a b l : List ℕ} {r : ReadAnswer} {u v x y z : List ℕ} → ReadsLists bytes p q a b l r u v x y z
+pub says_read : {bytes p q a b l : List ℕ} {r : Result Counted Refusal} {u v x y z : List ℕ} → ReadsLists bytes p q a b l r u v x y z
     → says_by r (ratios_of u v) (segments_of x y z) ≡ said_of (read_into bytes p q a b l)
 says_read {bytes} {p} {q} {a} {b} {l} i =
     rw (i.answers, i.p_is, i.q_is, i.a_is, i.b_is, i.lengths_are) (says_laid bytes p q (length (segments_of a b l)) _ (read_into bytes p q a b l) refl (begins (read_into bytes p q a b l)))
@@ -106,7 +107,7 @@ says_read {bytes} {p} {q} {a} {b} {l} i =
 -- a net that was read is written again as the bytes that were read, where as many ratios are lent as it has posts and the room is long enough
 pub read_writes : (bytes : List ℕ) (lent ratioRoom : ℕ) (n : Net) (next k : ℕ) (room : List ℕ) → Bytes bytes → net_read bytes lent ratioRoom 0 ≡ got n next → n.head.posts ≤ k
     → length bytes ≤ length room
-    → (write_answer_of n (length n.segments) k (length room) ≡ Written (length bytes)) × (the_room_after n (length n.segments) k room ≡ onto bytes room)
+    → (write_answer_of n (length n.segments) k (length room) ≡ Ok (length bytes)) × (the_room_after n (length n.segments) k room ≡ onto bytes room)
 read_writes bytes lent ratioRoom n next k room all e enough long =
     let v = written_of_read bytes lent ratioRoom n next all e in
     let d = v.written_is in

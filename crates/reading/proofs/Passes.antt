@@ -96,10 +96,6 @@ module _ (bytes : List ℕ) (room ratioRoom : ℕ) (h : Heading) (at : ℕ) wher
     unfolding rest_read hold
     rest_room l = rw (e, room_short room h.count l)
 
-    pub rest_eight : {r : Refusal} → first (room_lines room h.count) ≡ some r → rest_read bytes room ratioRoom h at ≡ refused r
-    unfolding rest_read hold
-    rest_eight f = rw (e, f)
-
     module _ (l : h.count ≤ room) where
       pub rest_few : {r : Refusal} → first (room_of_ratios h.head.posts ratioRoom) ≡ some r → rest_read bytes room ratioRoom h at ≡ refused r
       unfolding rest_read hold

@@ -12,16 +12,10 @@ use Rattle.net.specs.Refusals.{first, ratio_lines, segment_lines}
 use Rattle.net.specs.declared.Segment.{Segment}
 use Rattle.net.specs.declared.Form.{Form}
 use Rattle.net.specs.declared.Form.TheVariants.{First, Second}
-use Rattle.net.specs.declared.Head.{Head}
 use Rattle.net.specs.declared.Refusal.{Refusal}
 use Rattle.numbers.specs.Numbers.{Got, got, refused, number}
 use Rattle.reading.specs.Reading.{Reading, and_then, unless, hold, Triple, Heading, triple, formed, headed, heading, ratio, segment}
-use Rattle.reading.specs.Answers.{the_three_of, form_said, form_ends, head_read_of, segment_from, the_segment_of, segment_read_of}
-use Rattle.reading.specs.declared.Three.{Three}
-use Rattle.reading.specs.declared.Three.TheVariants.{Numbers, Refused as ThreeRefused}
-use Rattle.reading.specs.declared.HeadRead.TheVariants.{Read as ReadHead, Refused as HeadRefused}
-use Rattle.reading.specs.declared.SegmentRead.TheVariants.{Read as ReadSegment, Refused as SegmentRefused}
-use Rattle.numbers.specs.Answers.{numbered_of}
+use Rattle.reading.specs.Answers.{segment_from, the_segment_of}
 use Rattle.numbers.proofs.Groups.{number_next}
 
 -- what was handed on
@@ -39,20 +33,6 @@ handed (refused r) f e = let z : ◌≡◌ {A = ℕ} 0 1 = cc in absurd (omega a
 pub unless_passes : {Y : Type 0} (o : Option Refusal) (at : ℕ) (f : Unit {0} → Reading Y) {y : Y} {next : ℕ} → and_then (unless o at) f ≡ got y next → (o ≡ none) × (f tt at ≡ got y next)
 unless_passes none at f e = (refl, e)
 unless_passes (some r) at f e = let z : ◌≡◌ {A = ℕ} 0 1 = cc in absurd (omega arith)
-
--- what the answer of three numbers says
-pub three_stops : (g : Got Triple) (v : Three) (r : Refusal) → v ≡ the_three_of g → v ≡ ThreeRefused r → g ≡ refused r
-three_stops (got t i) v r e f = let z : ◌≡◌ {A = ℕ} 0 1 = cc in absurd (omega arith)
-three_stops (refused q) v r e f = cc
-
-pub three_gives : (g : Got Triple) (v : Three) (a b c i : ℕ) → v ≡ the_three_of g → v ≡ Numbers a b c i → g ≡ got (record { one = a; two = b; three = c }) i
-three_gives (got t j) v a b c i e f =
-    let x : t.one ≡ a = cc in
-    let y : t.two ≡ b = cc in
-    let z : t.three ≡ c = cc in
-    let w : j ≡ i = cc in
-    rw (← x, ← y, ← z, ← w)
-three_gives (refused q) v a b c i e f = let z : ◌≡◌ {A = ℕ} 0 1 = cc in absurd (omega arith)
 
 module _ (bytes : List ℕ) where
   -- THREE NUMBERS
@@ -185,17 +165,39 @@ module _ (bytes : List ℕ) where
         omega (arith, triple_next at _ f.i f.three_are, number_next bytes f.i _ f.j f.fourth_is, number_next bytes f.j _ next f.fifth_is)
 
   -- THE FORM
+  pub formed_stops : (at : ℕ) {r : Refusal} → number bytes at ≡ refused r → formed bytes at ≡ refused r
+  unfolding formed
+  formed_stops at e = rw e
+
+  pub formed_second : (at : ℕ) {i : ℕ} → number bytes at ≡ got 0 i → formed bytes at ≡ got Second i
+  unfolding formed
+  formed_second at e = rw e
+
+  pub formed_first : (at : ℕ) {n i : ℕ} → number bytes at ≡ got n i → (n ≡ 0 → ⊥) → formed bytes at ≡ got First at
+  unfolding formed
+  formed_first at {n} e ne = rw (e, ne_eqb n 0 ne)
+
+  -- the first number says where the head begins, and of which form it is
+  pub heading_by : (at : ℕ) → heading bytes at ≡ and_then (formed bytes at) (headed bytes)
+  unfolding heading
+  heading_by at = refl
+
   pub form_stops : (at : ℕ) {r : Refusal} → number bytes at ≡ refused r → heading bytes at ≡ refused r
-  unfolding heading formed
-  form_stops at e = rw e
+  form_stops at e = rw (heading_by, formed_stops at e)
 
   pub form_second : (at : ℕ) {i : ℕ} → number bytes at ≡ got 0 i → heading bytes at ≡ headed bytes Second i
-  unfolding heading formed
-  form_second at e = rw e
+  form_second at e = rw (heading_by, formed_second at e)
 
   pub form_first : (at : ℕ) {n i : ℕ} → number bytes at ≡ got n i → (n ≡ 0 → ⊥) → heading bytes at ≡ headed bytes First at
-  unfolding heading formed
-  form_first at {n} e ne = rw (e, ne_eqb n 0 ne)
+  form_first at e ne = rw (heading_by, formed_first at e ne)
+
+  pub formed_next : (at : ℕ) (f : Form) (next : ℕ) → formed bytes at ≡ got f next → next ≤ at + 4
+  unfolding formed
+  formed_next at f next e = let a = handed (number bytes at) _ e in go (eqb a.x 0) a.on (number_next bytes at a.x a.i a.is)
+    where
+      go : (b : Bool) {i : ℕ} → cond b (got Second i) (got First at) ≡ got f next → i ≤ at + 4 → next ≤ at + 4
+      go true {i} g l = let z : i ≡ next = cc in omega arith
+      go false g l = let z : at ≡ next = cc in omega arith
 
   -- what the form of a head that was read is, and where its five numbers begin
   pub data FormIs (at : ℕ) : Form → ℕ → Type 0 where
@@ -221,25 +223,6 @@ module _ (bytes : List ℕ) where
       go₁ : (g : Got ℕ) → number bytes at ≡ g → and_then (and_then g (λ n next. cond (eqb n 0) (got Second next) (got First at))) (headed bytes) ≡ got h next → HeadIs at h next
       go₁ (got n i) p e = go₂ n i p (eqb n 0) refl e
       go₁ (refused r) p e = let z : ◌≡◌ {A = ℕ} 0 1 = cc in absurd (omega arith)
-
-  -- the first number says where the head begins, and of which form it is
-  pub heading_begins : heading bytes 0 ≡ headed bytes (form_said (numbered_of (number bytes 0))) (form_ends (numbered_of (number bytes 0)))
-  heading_begins = go (number bytes 0) refl
-    where
-      by_value : (n i : ℕ) → number bytes 0 ≡ got n i → (b : Bool) → eqb n 0 ≡ b → heading bytes 0 ≡ headed bytes (cond b Second First) (cond b i 0)
-      by_value n i e true f = let z = eqb-true n 0 f in form_second 0 (rw z at e)
-      by_value n i e false f = form_first 0 e (eqb-false n 0 f)
-
-      go : (g : Got ℕ) → number bytes 0 ≡ g → heading bytes 0 ≡ headed bytes (form_said (numbered_of g)) (form_ends (numbered_of g))
-      go (got n i) e = by_value n i e (eqb n 0) refl
-      go (refused r) e = form_stops 0 e ∙ sym (headed_stops First 0 (triple_first 0 e))
-
-  pub heading_next : (at : ℕ) (h : Heading) (next : ℕ) → heading bytes at ≡ got h next → next ≤ at + 24
-  heading_next at h next e = let k = heading_is at h next e in go h.head.form k.form (headed_next h.head.form k.start h next k.numbers)
-    where
-      go : (f : Form) {start : ℕ} → FormIs at f start → next ≤ start + 20 → next ≤ at + 24
-      go First (first_form e ne) l = omega arith
-      go Second (second_form {i} e) l = omega (arith, number_next bytes at 0 i e)
 
   -- A POST: two numbers, then 3
   module _ (v at : ℕ) where
@@ -326,22 +309,3 @@ module _ (bytes : List ℕ) where
 
   pub segment_next : (posts i at : ℕ) (s : Segment) (next : ℕ) → segment bytes posts i at ≡ got s next → next ≤ at + 12
   segment_next posts i at s next e = let g = segment_is posts i at s next e in triple_next at g.t next g.numbers
-
--- THE ANSWERS OF THE CODE
-pub three_refused : {g : Got Triple} {q r : Refusal} → g ≡ refused r → q ≡ r → ThreeRefused q ≡ the_three_of g
-three_refused e f = rw (e, f)
-
-pub three_read : {g : Got Triple} {a b c i : ℕ} → g ≡ got (record { one = a; two = b; three = c }) i → Numbers a b c i ≡ the_three_of g
-three_read e = rw e
-
-pub head_refused : {g : Got Heading} {q r : Refusal} → g ≡ refused r → q ≡ r → HeadRefused q ≡ head_read_of g
-head_refused e f = rw (e, f)
-
-pub head_read : {g : Got Heading} {h : Head} {m i : ℕ} → g ≡ got (record { head = h; count = m }) i → ReadHead h m i ≡ head_read_of g
-head_read e = rw e
-
-pub segment_refusal_is : {g : Got Segment} {r : Refusal} → g ≡ refused r → SegmentRefused r ≡ segment_read_of g
-segment_refusal_is e = rw e
-
-pub segment_read : {g : Got Segment} {s : Segment} {i : ℕ} → g ≡ got s i → ReadSegment s i ≡ segment_read_of g
-segment_read e = rw e

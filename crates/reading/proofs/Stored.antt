@@ -1,24 +1,22 @@
--- Segments that are read into three lists side by side: the loop of `segments_in`, turn by turn, and what it answers and leaves there, by the ways out of the code. Relies on OneByOne.
-use Prim.Native.Nat.{ℕ, ◌+◌, ◌-◌, ◌^◌, ◌<◌, ◌≤◌}
+-- Segments that are read into three lists side by side: the loop of `segments_in`, turn by turn, and what was read and stands there after it. Relies on OneByOne.
+use Prim.Native.Nat.{ℕ, ◌+◌, ◌<◌}
 use mathlib.Core.Path.{◌≡◌, refl, sym, ap, ◌∙◌}
 use mathlib.Core.List.{List, [], ◌∷◌, ◌++◌}
-use mathlib.Core.Bool.{Bool, true, false}
 use native.Mathlib.Numerals.{add-one}
 use native.Mathlib.Omega.{arith}
 use lib.ListN.{length, take, set, length-set, length-append}
 use lib.Seq.{take-suc-set, length-take-le}
-use Rattle.net.specs.Net.{segments_of, most_posts, most_segments}
+use Rattle.net.specs.Net.{segments_of, most_segments}
 use Rattle.net.specs.declared.Segment.{Segment}
-use Rattle.net.specs.declared.Checked.{Checked}
-use Rattle.net.specs.declared.Checked.TheVariants.{Sound}
 use Rattle.numbers.specs.Numbers.{Got, got, refused}
-use Rattle.reading.specs.Reading.{segment}
-use Rattle.reading.specs.Answers.{segment_read_of}
-use Rattle.reading.specs.Turns.{does_go_on, segment_ends, Stores, row_up_to, SegmentsStored}
-use Rattle.reading.specs.declared.RowRead.{RowRead}
+use Rattle.numbers.specs.declared.reader.Reader.{Reader}
+use Rattle.net.specs.declared.Refusal.{Refusal}
+use Rattle.reading.specs.Reading.{segment, segments}
+use Rattle.reading.specs.Answers.{SegmentsStored}
+use Rattle.reading.proofs.Carried.{Step}
 use Rattle.reading.proofs.Steps.{segment_next}
 use Rattle.reading.proofs.OneByOne as O
-use Rattle.reading.proofs.OneByOne.{segments_one_by_one, row_count, turns_begin, turn_asks, turn_next, turn_stops, turns_end}
+use Rattle.reading.proofs.OneByOne.{segments_one_by_one, turn_first, turn_next, turn_stops, turn_all}
 
 -- THREE LISTS SIDE BY SIDE, one place longer
 one_longer : (xs ys ls : List ℕ) (x y l : ℕ) → length ys ≡ length xs → length ls ≡ length xs
@@ -42,93 +40,59 @@ stored_one x y l i s p q r =
     rw (add-one i, take-suc-set x i s.a p, take-suc-set y i s.b q, take-suc-set l i s.length r)
     (one_longer (take i x) (take i y) (take i l) s.a s.b s.length (omega arith) (omega arith))
 
--- THE LOOP of the segments' reader
-module _ (bytes : List ℕ) (before : Checked) (posts count at : ℕ) where
-  -- three lists of 2,048 places, at whose fronts the segments stand
-  pub record Long (x y l : List ℕ) : Type 0 where
-    pub x_long : length x ≡ most_segments
-    pub y_long : length y ≡ most_segments
-    pub l_long : length l ≡ most_segments
-
+-- THE LOOP of the segments' reader, which begins at the reader s
+module _ (s : Reader) (posts : ℕ) where
+  -- three lists at whose fronts the segments stand
   abbrev Holds : List ℕ → List ℕ → List ℕ → List Segment → Type 0
   Holds x y l ss = segments_of (take (length ss) x) (take (length ss) y) (take (length ss) l) ≡ ss
 
-  abbrev pub Turn : Checked → ℕ → ℕ → List ℕ → List ℕ → List ℕ → Type 0
-  Turn says place i x y l = O.Turn (segments_one_by_one bytes posts) most_segments 12 before count at says place i (Long x y l) (Holds x y l)
+  -- i segments were read, up to the reader r; the lists have 2,048 places
+  pub record Turn (r : Reader) (i : ℕ) (x y l : List ℕ) : Type 0 where
+    pub same : r.bytes ≡ s.bytes
+    pub x_long : length x ≡ most_segments
+    pub y_long : length y ≡ most_segments
+    pub l_long : length l ≡ most_segments
+    pub turn : O.Turn (segments_one_by_one s.bytes.now posts) 12 s.at r.at i (Holds x y l)
 
-  pub begun : {x y l : List ℕ} → length x ≡ most_segments → length y ≡ most_segments → length l ≡ most_segments → Turn before at 0 x y l
-  begun c₁ c₂ c₃ = turns_begin (segments_one_by_one bytes posts) most_segments 12 before count at (record { x_long = c₁; y_long = c₂; l_long = c₃ }) refl
+  pub begun : {x y l : List ℕ} → length x ≡ most_segments → length y ≡ most_segments → length l ≡ most_segments → Turn s 0 x y l
+  begun c₁ c₂ c₃ = record { same = refl; x_long = c₁; y_long = c₂; l_long = c₃; turn = turn_first (segments_one_by_one s.bytes.now posts) 12 s.at refl }
 
   -- one segment more
-  held_more : (x y l : List ℕ) {i : ℕ} (s : Segment) → i < length x → i < length y → i < length l → (ss : List Segment) → length ss ≡ i → Holds x y l ss
-      → Holds (set x i s.a) (set y i s.b) (set l i s.length) (ss ++ (s ∷ []))
-  held_more x y l {i} s p q r ss n held =
-      let m : length (ss ++ (s ∷ [])) ≡ i + 1 = length-append ss (s ∷ []) ∙ rw n in
-      rw m (stored_one x y l i s p q r ∙ rw (← n) (ap (λ (ts : List Segment). ts ++ (s ∷ [])) held))
+  held_more : (x y l : List ℕ) {i : ℕ} (g : Segment) → i < length x → i < length y → i < length l → (ss : List Segment) → length ss ≡ i → Holds x y l ss
+      → Holds (set x i g.a) (set y i g.b) (set l i g.length) (ss ++ (g ∷ []))
+  held_more x y l {i} g p q r ss n held =
+      let m : length (ss ++ (g ∷ [])) ≡ i + 1 = length-append ss (g ∷ []) ∙ rw n in
+      rw m (stored_one x y l i g p q r ∙ rw (← n) (ap (λ (ts : List Segment). ts ++ (g ∷ [])) held))
 
-  module _ (enough : before ≡ Sound → (posts ≤ most_posts) × (count ≤ most_segments)) where
-    few : before ≡ Sound → count ≤ most_segments
-    few e = (enough e).1
+  module _ {r : Reader} {i : ℕ} {x y l : List ℕ} (t : Turn r i x y l) where
+    -- a segment that was read and stored
+    pub one_more : {g : Segment} {u : Reader} → i < most_segments → Step (λ bytes. segment bytes posts i) s r.at g u → Turn u (i + 1) (set x i g.a) (set y i g.b) (set l i g.length)
+    one_more {g} inside k = record {
+      same = k.1;
+      x_long = length-set x i g.a ∙ t.x_long;
+      y_long = length-set y i g.b ∙ t.y_long;
+      l_long = length-set l i g.length ∙ t.l_long;
+      turn = turn_next (segments_one_by_one s.bytes.now posts) 12 s.at t.turn k.0 (segment_next s.bytes.now posts i r.at _ _ k.0)
+          (held_more x y l g (omega (arith, t.x_long)) (omega (arith, t.y_long)) (omega (arith, t.l_long)));
+    }
 
-    turn_on : (says : Checked) {place i : ℕ} {x y l : List ℕ} → Turn says place i x y l → does_go_on says i count ≡ true
-        → {r : Checked} {x' y' l' : List ℕ} → Stores (segment_read_of (segment bytes posts i place)) i x y l r x' y' l'
-        → Turn r (segment_ends (segment_read_of (segment bytes posts i place)) place) (i + 1) x' y' l'
-    turn_on says {place} {i} {x} {y} {l} t more {r} {x'} {y'} {l'} = go (segment bytes posts i place) refl
-      where
-        inside : i < most_segments
-        inside = (turn_asks (segments_one_by_one bytes posts) most_segments 12 before count at few says t more).1
+    -- one that was refused
+    pub one_stops : (count : ℕ) {q : Refusal} → i < count → segment s.bytes.now posts i r.at ≡ refused q → segments s.bytes.now posts 0 count s.at ≡ refused q
+    one_stops count inside e = turn_stops (segments_one_by_one s.bytes.now posts) 12 s.at t.turn inside e
 
-        in_x : i < length x
-        in_x = omega (arith, inside, t.long.x_long)
+    -- all segments
+    module _ {count : ℕ} (e : i ≡ count) where
+      pub all_read : segments s.bytes.now posts 0 count s.at ≡ got t.turn.xs r.at
+      all_read = turn_all (segments_one_by_one s.bytes.now posts) 12 s.at t.turn e
 
-        in_y : i < length y
-        in_y = omega (arith, inside, t.long.y_long)
+      pub all_stored : SegmentsStored count (segments s.bytes.now posts 0 count s.at) x y l
+      all_stored = record {
+        stored = λ ss next g.
+            (let same : t.turn.xs ≡ ss = (let k = sym all_read ∙ g in cc) in
+            let n : length ss ≡ count = rw (← same) (t.turn.long ∙ e) in
+            rw (same, n) at t.turn.held);
+      }
 
-        in_l : i < length l
-        in_l = omega (arith, inside, t.long.l_long)
-
-        go : (g : Got Segment) → segment bytes posts i place ≡ g → Stores (segment_read_of g) i x y l r x' y' l' → Turn r (segment_ends (segment_read_of g) place) (i + 1) x' y' l'
-        go (got s next) e k =
-            rw (k.answers, k.a_is, k.b_is, k.lengths_are)
-            (turn_next (segments_one_by_one bytes posts) most_segments 12 before count at few says t more e (segment_next bytes posts i place s next e)
-            (record { x_long = length-set x i s.a ∙ t.long.x_long; y_long = length-set y i s.b ∙ t.long.y_long; l_long = length-set l i s.length ∙ t.long.l_long })
-            (held_more x y l s in_x in_y in_l))
-        go (refused v) e k = rw (k.answers, k.a_is, k.b_is, k.lengths_are) (turn_stops (segments_one_by_one bytes posts) most_segments 12 before count at few says t more e t.long)
-
-    -- the same of what the code has in hand: the outcome of the test
-    module _ (low : at ≤ 900000) {said : Checked} {place i : ℕ} {x y l : List ℕ} (t : Turn said place i x y l) where
-      -- the numbers of a state are numbers of the code
-      pub record Fits : Type 0 where
-        pub i_fits : i < 2 ^ 64
-        pub place_fits : place < 2 ^ 64
-
-      pub fits : Fits
-      fits = let n = t.near in let f = t.few in record { i_fits = omega arith; place_fits = omega arith }
-
-      module _ {b : Bool} (e : b ≡ does_go_on said i count) where
-        pub record Takes : Type 0 where
-          pub near : place ≤ 1000000
-          pub few_posts : posts ≤ most_posts
-          pub in_x : i < length x
-          pub in_y : i < length y
-          pub in_l : i < length l
-          pub next_fits : i + 1 < 2 ^ 64
-          pub less : most_segments - (i + 1) < most_segments - i
-
-        pub takes : b ≡ true → Takes
-        takes held =
-            let k = turn_asks (segments_one_by_one bytes posts) most_segments 12 before count at few said t (sym e ∙ held) in
-            let c = k.1 in
-            let d₁ = t.long.x_long in
-            let d₂ = t.long.y_long in
-            let d₃ = t.long.l_long in
-            record { near = omega (arith, t.near); few_posts = (enough k.0).0; in_x = omega arith; in_y = omega arith; in_l = omega arith; next_fits = omega arith; less = omega arith }
-
-        pub turned : b ≡ true → {r : Checked} {x' y' l' : List ℕ} → Stores (segment_read_of (segment bytes posts i place)) i x y l r x' y' l'
-            → {on : ℕ} → on ≡ segment_ends (segment_read_of (segment bytes posts i place)) place → Turn r on (i + 1) x' y' l'
-        turned held k f = rw f (turn_on said t (sym e ∙ held) k)
-
-        pub ended : b ≡ false → {r : RowRead} → r ≡ row_up_to said place → SegmentsStored bytes before posts count at r x y l
-        ended left f =
-            let k = turns_end (segments_one_by_one bytes posts) most_segments 12 before count at few said t (sym e ∙ left) in
-            rw f (record { answers = k.answers; stored = λ s ss next g. (let n = row_count (segments_one_by_one bytes posts) count g in rw (← n) (k.held s ss next g)) })
+-- after a refusal nothing is said of the lists
+pub none_stored : {count : ℕ} {g : Got (List Segment)} {r : Refusal} (x y l : List ℕ) → g ≡ refused r → SegmentsStored count g x y l
+none_stored x y l e = record { stored = λ ss next k. (let z : ◌≡◌ {A = ℕ} 0 1 = cc in absurd (omega arith)) }

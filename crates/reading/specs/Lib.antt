@@ -2,7 +2,7 @@
 -- writing, the crate `writing`. Definitions only; what is proved of them stands in proofs/.
 pub mod Reading
 pub mod Answers
-pub mod Turns
 pub mod Rules
 pub mod Longest
 pub mod Worked
+pub mod Carrying

@@ -1,13 +1,13 @@
 -- Which post is not joined: the lowest post whose least length is "none yet" is that of refusal 9. Rests on `hanging`'s `Lists`.
-use mathlib.Core.Path.{◌≡◌, sym, ap, ◌∙◌}
+use mathlib.Core.Path.{◌≡◌, refl, sym, ap, ◌∙◌}
 use mathlib.Core.Bool.{Bool, true, false, not}
 use mathlib.Core.List.{List, [], ◌∷◌, ◌++◌}
 use mathlib.Core.Option.{none, some}
-use mathlib.Core.Logic.{⊎_elim}
-use Prim.Native.Nat.{ℕ, ◌+◌, ◌<◌, ◌≤◌}
+use Prim.Native.Nat.{ℕ, ◌<◌, ◌≤◌}
 use native.Mathlib.Omega.{arith}
 use native.Mathlib.Decide.{dec_lt}
 use lib.ListN.{length}
+use Rattle.std.specs.Prelude.{Option, None, Some}
 use Rattle.net.specs.Net.{most_posts, longest, length_at}
 use Rattle.net.specs.Trees.{none_yet, at, joined, the_least_lengths}
 use Rattle.net.specs.Refusals.{Line, line, first, joined_lines, refusal}
@@ -17,27 +17,17 @@ use Rattle.net.proofs.Tables.{end, here, below, first_only, none_each, some_each
 use Rattle.net.proofs.Least.{Inside, length_least, joined_chain, chain_joined, least_is, least_small}
 use Rattle.hanging.specs.Lists.{note}
 use Rattle.shortest.specs.Notes.{LowestApart}
-use Rattle.hanging.proofs.Lists.{last?, front_at}
-
--- THE LOOP: every post below v has a note
-pub record AllNear (d : ℕ → ℕ) (v : ℕ) : Type 0 where
-  pub near : (x : ℕ) → x < v → d x < none_yet
-
-pub near_none : {d : ℕ → ℕ} → AllNear d 0
-near_none = record { near = λ x h. absurd (omega arith) }
-
-pub near_more : {d : ℕ → ℕ} {v : ℕ} → AllNear d v → d v < none_yet → AllNear d (v + 1)
-near_more {d} {v} r h = record { near = λ x k. ⊎_elim (λ e. rw e h) (λ l. r.near x l) (last? x v k) }
+use Rattle.hanging.proofs.Lists.{front_at}
 
 -- TWO OUTCOMES of `lowest_apart` are equal
-not_lower : {posts : ℕ} {d : ℕ → ℕ} {r r' : ℕ} → LowestApart posts d r → LowestApart posts d r' → r < r' → ⊥
-not_lower {r = r} x y h = omega (arith, x.apart (omega (arith, y.up_to)), y.near r h)
-
-pub lowest_one : {posts : ℕ} {d : ℕ → ℕ} {r r' : ℕ} → LowestApart posts d r → LowestApart posts d r' → r ≡ r'
-lowest_one {r = r} {r' = r'} x y = elim (dec_lt r r') [
-  | yes p ↦ absurd (not_lower x y p)
-  | no p ↦ elim (dec_lt r' r) [ yes q ↦ absurd (not_lower y x q) | no q ↦ omega arith ]
-]
+pub lowest_one : (posts : ℕ) (d : ℕ → ℕ) {r r' : Option ℕ} → LowestApart posts d r → LowestApart posts d r' → r ≡ r'
+lowest_one n d {r = None} {r' = None} x y = refl
+lowest_one n d {r = None} {r' = Some v} x y = absurd (omega (arith, x v y.0, y.2))
+lowest_one n d {r = Some u} {r' = None} x y = absurd (omega (arith, y u x.0, x.2))
+lowest_one n d {r = Some u} {r' = Some v} x y = ap Some (elim (dec_lt u v) [
+  | yes p ↦ absurd (omega (arith, y.1 u p, x.2))
+  | no p ↦ elim (dec_lt v u) [ yes q ↦ absurd (omega (arith, x.1 v q, y.2)) | no q ↦ omega arith ]
+])
 
 -- THE TABLE. The line of post v
 abbrev line_of : (ℕ → Bool) → ℕ → List Line
@@ -71,19 +61,19 @@ module _ (segs : List Segment) (ok : ℕ → Bool) (n : ℕ) (inside : Inside se
   far_apart : (v : ℕ) → none_yet ≤ at (the_least_lengths segs ok n s) v → joined segs n ok s v ≡ false
   far_apart v h = so_false (joined segs n ok s v) (λ e. omega (arith, joined_near v e))
 
-  -- REFUSAL 9. l holds the least lengths, r is its lowest post without a note, and j says which posts are joined to the source
-  module _ (l rest : List ℕ) (e : l ≡ the_least_lengths segs ok n s ++ rest) (r : ℕ) (z : LowestApart n (note l) r) (j : ℕ → Bool) (same : (v : ℕ) → j v ≡ joined segs n ok s v) where
+  -- REFUSAL 9. l holds the least lengths, and j says which posts are joined to the source
+  module _ (l rest : List ℕ) (e : l ≡ the_least_lengths segs ok n s ++ rest) (j : ℕ → Bool) (same : (v : ℕ) → j v ≡ joined segs n ok s v) where
     note_is : (v : ℕ) → v < n → note l v ≡ at (the_least_lengths segs ok n s) v
     unfolding the_least_lengths
     note_is v h = front_at n (the_least_lengths segs ok n s) rest l none_yet e (length_least segs ok (length_at segs) n inside s in-s) v h
 
-    before_joined : (v : ℕ) → v < r → j v ≡ true
-    before_joined v h = same v ∙ near_joined v (omega (arith, note_is v (omega (arith, z.up_to)), z.near v h))
+    is_joined : (v : ℕ) → v < n → note l v < none_yet → j v ≡ true
+    is_joined v h k = same v ∙ near_joined v (omega (arith, note_is v h))
 
     -- every post is joined
-    pub apart_none : n ≤ r → first (joined_lines n j) ≡ none
-    apart_none h = lines_none j n (λ v k. before_joined v (omega arith))
+    pub apart_none : LowestApart n (note l) None → first (joined_lines n j) ≡ none
+    apart_none z = lines_none j n (λ v h. is_joined v h (z v h))
 
-    -- r is the lowest that is not
-    pub apart_some : r < n → first (joined_lines n j) ≡ some (refusal 9 r)
-    apart_some h = lines_some j n r h before_joined (same r ∙ far_apart r (omega (arith, note_is r h, z.apart h)))
+    -- v is the lowest that is not
+    pub apart_some : {v : ℕ} → LowestApart n (note l) (Some v) → first (joined_lines n j) ≡ some (refusal 9 v)
+    apart_some {v} z = lines_some j n v z.0 (λ u k. is_joined u (omega (arith, z.0)) (z.1 u k)) (same v ∙ far_apart v (omega (arith, note_is v z.0, z.2)))

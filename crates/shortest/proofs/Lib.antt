@@ -1,5 +1,4 @@
 -- The laws of this crate, one idea a file; the folder of a function has the proof that it meets its contract.
-pub mod Notes
 pub mod Settling
 pub mod Ladder
 pub mod Rows

@@ -1,20 +1,18 @@
 -- Laws of the index (specs/Rows), and of relaxing along a row. Rests on `hanging`'s `Lists`.
 use mathlib.Core.Path.{◌≡◌, refl, sym, ap, ◌∙◌}
 use mathlib.Core.Bool.{Bool, true}
-use mathlib.Core.List.{List, ◌++◌}
+use mathlib.Core.List.{List}
 use mathlib.Core.Logic.{◌⊎◌, inl, inr, ⊎_elim}
 use Prim.Native.Nat.{ℕ, ◌+◌, ◌-◌, ◌*◌, ◌/◌, ◌<◌, ◌≤◌}
-use native.Mathlib.Nat.{le_refl, le_trans, le_of_eq, not-suc-le-zero}
+use native.Mathlib.Nat.{le_trans, le_of_eq, not-suc-le-zero}
 use native.Mathlib.Omega.{arith}
 use native.Mathlib.Numerals.{add-one}
-use lib.ListN.{length, set, drop, replicate, length-append, length-replicate, length-drop, get_or-replicate, get_or-append}
-use lib.Seq.{get_or-append-add, get_or-drop}
+use lib.ListN.{length, set}
 use borrow.Author.Tests.{lt-ltb, le-ltb}
 use Rattle.hanging.specs.Lists.{flag, note, Filled}
 use Rattle.shortest.specs.Notes.{Joins, Offered, Relaxed}
 use Rattle.shortest.specs.Rows.{On, Index, Rows, push_of, rows_of}
 use Rattle.hanging.proofs.Lists.{same?, below?, last?, stored}
-use Rattle.hanging.proofs.Filling.{filled_one}
 
 -- code c was put before the row of x, if x is a post
 pub record Pushed (posts x c : ℕ) (head next head' next' : List ℕ) : Type 0 where
@@ -65,20 +63,6 @@ push_pushed {posts} {x} {c} {h} {n} i j e = ⊎_elim
 rows_more : (posts : ℕ) (a b : List ℕ) (i : ℕ) (r : Rows) → push_of posts (note b i) (2 * i + 2) (push_of posts (note a i) (2 * i + 1) (rows_of posts a b i r)) ≡ rows_of posts a b (i + 1) r
 unfolding rows_of
 rows_more posts a b i r = rw (add-one i)
-
--- a list whose first entries were filled with 0
-pub filled_rows : (posts : ℕ) (l h : List ℕ) → posts ≤ length l → length h ≡ length l → Filled posts 0 (note l) (note h) → h ≡ replicate posts 0 ++ drop posts l
-filled_rows posts l h few same f =
-    filled_one {l = h} {l' = replicate posts 0 ++ drop posts l} (same ∙ simp (length-append, length-replicate, length-drop) (omega arith)) f (record { gone = front; rest = behind })
-  where
-    front : (v : ℕ) → v < posts → note (replicate posts 0 ++ drop posts l) v ≡ 0
-    front v k = get_or-append (replicate posts 0) (drop posts l) 0 v (omega (arith, length-replicate {A = ℕ} posts 0)) ∙ get_or-replicate posts v 0 0 k
-
-    behind : (v : ℕ) → posts ≤ v → note (replicate posts 0 ++ drop posts l) v ≡ note l v
-    behind v k =
-        let e : v ≡ posts + (v - posts) = omega arith in
-        let z = get_or-append-add (replicate posts 0) (drop posts l) (v - posts) 0 ∙ get_or-drop posts l (v - posts) 0 in
-        rw (length-replicate {A = ℕ} posts 0, ← e) at z
 
 pub on_pos : {next : ℕ → ℕ} {k c : ℕ} → On next k c → 0 < c
 on_pos (On.first h) = h
@@ -192,9 +176,6 @@ joins_on hu I i v h (Joins.forth f g) = (2 * i + 1, rw (← f) (I.on_a i h (rw f
 joins_on hu I i v h (Joins.back f g) = (2 * i + 2, rw (← f) (I.on_b i h (rw f hu)), omega arith)
 
 module _ {a b weights : List ℕ} {present : List Bool} {next : List ℕ} {u du : ℕ} where
-  pub walking : {posts c : ℕ} {head : ℕ → ℕ} {l : List ℕ} → u < posts → Index (note a) (note b) posts (2 * length a) (length a) (length a) head (note next) → c ≡ head u → Walking a b weights present next u du c l l
-  walking hu I e = rw e (record { low = I.tops u hu; same = refl; falls = λ v. le_refl _; most = λ i v h p j. inr (joins_on hu I i v h j); from = λ v. inl refl })
-
   -- the segment at c is present, and was offered
   pub walking_more : {c c' i x y o : ℕ} {l₀ l l' : List ℕ} → Walking a b weights present next u du c l₀ l → (c - 1) / 2 ≡ i → i < length a → flag present i ≡ true
       → x ≡ note a i → y ≡ note b i → o ≡ du + note weights i → Offered u x y o (note l) (note l') → length l' ≡ length l → c' ≡ note next c → c' < c → Walking a b weights present next u du c' l₀ l'

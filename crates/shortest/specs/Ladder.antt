@@ -2,19 +2,13 @@
 -- The rung of post v is `posts + v`: there its note stands, or "none yet" once the post is settled. At each rung p
 -- from 1 on, below `posts`, the lesser of what stands at the rungs 2 * p and 2 * p + 1 stands; so the least note of
 -- all stands at rung 1. t says what stands at a rung. Rests on `Notes` and `net`'s words.
-use Rattle.std.specs.Prelude.{◌≡◌, Bool, true, false, ◌⊎◌, ℕ, ◌+◌, ◌*◌, ◌<◌, ◌≤◌}
+use Rattle.std.specs.Prelude.{◌≡◌, Bool, true, false, Option, ℕ, ◌+◌, ◌*◌, ◌<◌, min}
 use Rattle.net.specs.Trees.{none_yet}
 use Rattle.shortest.specs.Notes.{Nearest}
 
--- r is the lesser of x and y
-pub record Lesser (x y r : ℕ) : Type 0 where
-  pub first : r ≤ x
-  pub second : r ≤ y
-  pub one : (r ≡ x) ⊎ (r ≡ y)
-
 -- what is asked at rung p
 abbrev pub Rung : (ℕ → ℕ) → ℕ → Type 0
-Rung t p = Lesser (t (2 * p)) (t (2 * p + 1)) (t p)
+Rung t p = t p ≡ min (t (2 * p)) (t (2 * p + 1))
 
 -- every rung is as it should be
 pub record Ladder (posts : ℕ) (t : ℕ → ℕ) : Type 0 where
@@ -32,6 +26,6 @@ pub record Written (posts v c : ℕ) (t t' : ℕ → ℕ) : Type 0 where
   pub here : t' (posts + v) ≡ c
   pub others : (x : ℕ) → x < posts → (x ≡ v → ⊥) → t' (posts + x) ≡ t (posts + x)
 
--- r is the nearest of the open posts that stand on the ladder, or the number of posts
-pub record NearestOn (posts : ℕ) (t : ℕ → ℕ) (r : ℕ) : Type 0 where
-  pub is : {d : ℕ → ℕ} {S : ℕ → Bool} → OpenPosts posts d S t → (least : ℕ) × Nearest posts d S r least
+-- r is the nearest of the open posts that stand on the ladder, if one has a note
+pub record NearestOn (posts : ℕ) (t : ℕ → ℕ) (r : Option ℕ) : Type 0 where
+  pub is : {d : ℕ → ℕ} {S : ℕ → Bool} → OpenPosts posts d S t → Nearest posts d S r

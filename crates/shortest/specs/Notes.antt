@@ -1,6 +1,6 @@
 -- What the steps of the search for least lengths do to the notes. A list of notes is taken as the function that gives
 -- the note of a post. Rests on `hanging`'s lists and `net`'s words.
-use Rattle.std.specs.Prelude.{◌≡◌, Bool, true, false, List, ◌⊎◌, ℕ, ◌+◌, ◌<◌, ◌≤◌, length}
+use Rattle.std.specs.Prelude.{◌≡◌, Bool, true, false, List, Option, None, Some, ◌⊎◌, ℕ, ◌+◌, ◌<◌, ◌≤◌, length}
 use Rattle.net.specs.Trees.{none_yet}
 use Rattle.hanging.specs.Lists.{flag, note}
 
@@ -36,14 +36,13 @@ pub record Relaxed (a b weights : List ℕ) (present : List Bool) (u du : ℕ) (
       ⊎ ((i : ℕ) × (i < length a) × (flag present i ≡ true) × Joins (note a i) (note b i) u v
       × (d' v ≡ du + note weights i))
 
--- the least note of the unsettled posts, if it is below "none yet", and its post
-pub record Nearest (posts : ℕ) (d : ℕ → ℕ) (S : ℕ → Bool) (best least : ℕ) : Type 0 where
-  pub lower : (y : ℕ) → y < posts → S y ≡ false → least ≤ d y
-  pub which : ((best ≡ posts) × (least ≡ none_yet))
-      ⊎ ((best < posts) × (S best ≡ false) × (d best ≡ least) × (least < none_yet))
+-- the unsettled post of the least note, if that is below "none yet"
+abbrev pub Nearest : ℕ → (ℕ → ℕ) → (ℕ → Bool) → Option ℕ → Type 0
+Nearest posts d S None = (y : ℕ) → y < posts → S y ≡ false → none_yet ≤ d y
+Nearest posts d S (Some u) = (u < posts) × (S u ≡ false) × (d u < none_yet)
+    × ((y : ℕ) → y < posts → S y ≡ false → d u ≤ d y)
 
--- r is the lowest post whose note is "none yet", or the number of posts where every post has a note
-pub record LowestApart (posts : ℕ) (d : ℕ → ℕ) (r : ℕ) : Type 0 where
-  pub up_to : r ≤ posts
-  pub near : (v : ℕ) → v < r → d v < none_yet
-  pub apart : r < posts → none_yet ≤ d r
+-- the lowest post whose note is "none yet", or none where every post has a note
+abbrev pub LowestApart : ℕ → (ℕ → ℕ) → Option ℕ → Type 0
+LowestApart posts d None = (v : ℕ) → v < posts → d v < none_yet
+LowestApart posts d (Some u) = (u < posts) × ((v : ℕ) → v < u → d v < none_yet) × (none_yet ≤ d u)

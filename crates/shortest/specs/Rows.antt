@@ -1,7 +1,9 @@
 -- The index of a net: the ends of its segments in rows, a row for each post, made once for any number of searches.
 -- Code 2 * i + 1 is the first end of segment i, and 2 * i + 2 the second; 0 ends a row. Rests on `hanging`'s lists.
 use Rattle.std.specs.Prelude.{cond, List, ◌++◌, ℕ, ◌+◌, ◌*◌, ◌<◌, ◌≤◌, ltb, length, set, drop, replicate}
+use Rattle.std.specs.Borrow.{Bor}
 use Rattle.net.specs.Words.{each}
+use Rattle.net.specs.declared.SegmentLists.{SegmentLists}
 use Rattle.hanging.specs.Lists.{note}
 
 -- code k is on the row from c
@@ -20,6 +22,10 @@ pub record Index (a b : ℕ → ℕ) (posts t na nb : ℕ) (head next : ℕ → 
 -- the index of all segments
 abbrev pub IndexOf : ℕ → List ℕ → List ℕ → List ℕ → List ℕ → Type 0
 IndexOf posts a b head next = Index (note a) (note b) posts (2 * length a) (length a) (length a) (note head) (note next)
+
+-- the same of lent lists
+abbrev pub IndexIn : ℕ → SegmentLists → Bor (List ℕ) → Bor (List ℕ) → Type 0
+IndexIn posts s head next = IndexOf posts s.a.now s.b.now head.now next.now
 
 -- MADE, code by code: for each post the first code of its row, for each code the next one
 abbrev pub Rows : Type 0

@@ -1,41 +1,33 @@
-// Least lengths over the present segments of a net, the tree hung by them, and which post is not joined. Each is
-// proved equal to the definition of `net`. Segments come as slices side by side: two ends, what a segment counts for,
-// and whether it is present. An index of the ends is made once (`index`) and lent to each search.
+// Least lengths over the present segments of a net, the tree hung by them, and which post is not joined. Each is proved
+// equal to the definition of `net`. Segments come as slices side by side: two ends and what a segment counts for, and
+// beside them whether it is present. An index of the ends is made once (`index`) and lent to each search.
 // Posts are settled one after the other, the nearest first; a ladder of the open posts says which is nearest: at 256
 // posts and 2,048 segments some 10,000 steps for a search. Relies on `hanging`, which hangs the posts by the lengths
 // found here.
 #![tactic(auto)]
 
-ghost use Rattle.std.specs.Prelude.{◌≡◌, List, ◌++◌, ℕ, ◌*◌, ◌<◌, ◌≤◌, length, drop};
+ghost use Rattle.std.specs.Prelude.{◌≡◌, ◌++◌, ◌*◌, ◌<◌, ◌≤◌, length, drop};
 ghost use Rattle.net.specs.Net.{most_posts, most_segments, every};
-ghost use Rattle.net.specs.Ready.{segments_by};
+ghost use Rattle.net.specs.Ready.{segments_in};
 ghost use Rattle.net.specs.Trees.{none_yet, least, the_least_lengths, shortest};
 ghost use Rattle.hanging.specs.Lists.{flag, note, Ends, Sides};
 ghost use Rattle.shortest.specs.Notes.{Cleared, Lowered, Offered, Relaxed, LowestApart};
-ghost use Rattle.shortest.specs.Ladder.{Lesser, Ladder, OpenPosts, Written, NearestOn};
-ghost use Rattle.shortest.specs.Rows.{IndexOf, push_of, rows_of, no_rows};
+ghost use Rattle.shortest.specs.Ladder.{Ladder, OpenPosts, Written, NearestOn};
+ghost use Rattle.shortest.specs.Rows.{IndexOf, IndexIn, push_of, rows_of, no_rows};
+ghost use Rattle.shortest.specs.OneProof.{index_prop};
 
-// "none yet", which is larger than any length.
-pub const NONE_YET: u64 = net::NONE_YET;
+use net::plain::at;
+use net::{MOST_SEGMENTS, NONE_YET, POST_PLACES, SegmentLists};
 
-// "Posts 1 to 256", two rungs of a ladder for each, "Segments 0 to 2,048", and the codes of an index: 0, and one for
-// each end.
-pub const MOST_POSTS: usize = net::POST_PLACES;
+// Two rungs of a ladder for each post.
+pub const MOST_RUNGS: usize = 2 * POST_PLACES;
 
-pub const MOST_RUNGS: usize = 2 * MOST_POSTS;
-
-pub const MOST_SEGMENTS: usize = net::MOST_SEGMENTS;
-
+// The codes of an index: 0, and one for each end.
 pub const MOST_CODES: usize = 2 * MOST_SEGMENTS + 1;
 
-// THE LADDER OF THE OPEN POSTS. The lesser of two notes.
-fn lesser(x: u64, y: u64) -> u64
-    ensures { Lesser x y result }
-{
-    if x < y { x } else { y }
-}
-
-// c is written at the rung of v, and what follows from it up the ladder, until nothing changes.
+// THE LADDER OF THE OPEN POSTS. c is written at the rung of v, and what follows from it up the ladder, until nothing
+// changes. In this file the flags, the notes and the ladder stay parameters of their own: a struct is no plainer, as
+// its fact is broken between two stores. No BinaryHeap: no heap, and a note that falls is changed in place.
 fn write_up(posts: usize, v: usize, c: u64, ladder: &mut [u64])
     requires v_lt_posts { (v < posts) × (2 * posts ≤ length ladder.old) }
     requires ladder { Ladder posts (note ladder.old) }
@@ -44,8 +36,8 @@ fn write_up(posts: usize, v: usize, c: u64, ladder: &mut [u64])
     let mut p = posts + v;
     ladder[p] = c;
     while p > 1 {
-        p = p / 2;
-        let least = lesser(ladder[2 * p], ladder[2 * p + 1]);
+        p /= 2;
+        let least = ladder[2 * p].min(ladder[2 * p + 1]);
         if ladder[p] == least {
             return;
         }
@@ -53,25 +45,25 @@ fn write_up(posts: usize, v: usize, c: u64, ladder: &mut [u64])
     }
 }
 
-// The open post of the least note below "none yet", or `posts` where there is none: down the ladder, to where the note
-// of rung 1 stands.
-fn nearest(posts: usize, ladder: &[u64]) -> usize
+// The open post of the least note below "none yet", if there is one: down the ladder, to where the note of rung 1
+// stands.
+fn nearest(posts: usize, ladder: &[u64]) -> Option<usize>
     requires posts_nonzero { (0 < posts) × (2 * posts ≤ length ladder.now) }
     requires ladder { Ladder posts (note ladder.now) }
     ensures { NearestOn posts (note ladder.now) result }
 {
     let least = ladder[1];
     if least >= NONE_YET {
-        return posts;
+        return None;
     }
     let mut p = 1;
     while p < posts {
-        p = 2 * p;
+        p *= 2;
         if least < ladder[p] {
             p += 1;
         }
     }
-    p - posts
+    Some(p - posts)
 }
 
 // LEAST LENGTHS. 0 at the source, "none yet" at the other posts. On the ladder, where "none yet" stands at every
@@ -82,11 +74,7 @@ fn clear(posts: usize, source: usize, dist: &mut [u64], ladder: &mut [u64])
     ensures cleared { Cleared posts source (note dist.old) (note dist.new) }
     ensures written { Written posts source 0 (note ladder.old) (note ladder.new) }
 {
-    let mut v = 0;
-    while v < posts {
-        dist[v] = NONE_YET;
-        v += 1;
-    }
+    dist[..posts].fill(NONE_YET);
     dist[source] = 0;
     write_up(posts, source, 0, ladder);
 }
@@ -134,7 +122,8 @@ fn offer(
     }
 }
 
-// Code c goes before the row of x, if x is a post.
+// Code c goes before the row of x, if x is a post. The two lists stay parameters here and below: they are filled, and
+// `IndexedNet` has them once they are.
 fn push(posts: usize, x: usize, c: usize, first: &mut [u16], next: &mut [u16])
     requires { (posts ≤ length first.old) × (c < length next.old) × (c < 65536) }
     ensures { (first.new, next.new)
@@ -149,156 +138,110 @@ fn push(posts: usize, x: usize, c: usize, first: &mut [u16], next: &mut [u16])
 }
 
 // The index of a net: the ends of its segments in rows, a row for each post. Made once, it serves every search,
-// whichever segments are present.
-pub fn index(posts: usize, a: &[u16], b: &[u16], first: &mut [u16], next: &mut [u16])
-    requires { (posts ≤ length first.old) × (2 * length a.now < length next.old)
-        × (length a.now ≤ most_segments) }
-    ensures indexed { IndexOf posts a.now b.now
+// whichever segments are present. The rows are linked by code, as there is no heap: 0 ends a row, 2i + 1 and 2i + 2 are
+// the two ends of segment i.
+pub fn index(posts: usize, segments: SegmentLists<'_>, first: &mut [u16], next: &mut [u16])
+    requires { (posts ≤ length first.old) × (2 * length segments.a.now < length next.old)
+        × (length segments.a.now ≤ most_segments) }
+    ensures indexed { IndexOf posts segments.entry.a.now segments.entry.b.now
         first.new next.new }
     ensures rows { (first.new, next.new)
-        ≡ rows_of posts a.now b.now (length a.now)
+        ≡ rows_of posts segments.entry.a.now segments.entry.b.now (length segments.entry.a.now)
         (no_rows posts first.old next.old) }
 {
-    hanging::fill(posts, 0, first);
-    let mut i = 0;
-    while i < a.len() {
-        push(posts, hanging::at16(a, i), 2 * i + 1, first, next);
-        push(posts, hanging::at16(b, i), 2 * i + 2, first, next);
-        i += 1;
+    first[..posts].fill(0);
+    for i in 0..segments.a.len() {
+        let x = usize::from(segments.a[i]);
+        let y = usize::from(at(segments.b, i, 0));
+        push(posts, x, 2 * i + 1, first, next);
+        push(posts, y, 2 * i + 2, first, next);
     }
+}
+
+// A net with its index.
+#[derive(Clone, Copy)]
+pub struct IndexedNet<'a> {
+    pub posts: usize,
+    pub segments: SegmentLists<'a>,
+    pub first: &'a [u16],
+    pub next: &'a [u16],
+    ghost index_of: { IndexIn posts segments first next } by { index_prop posts segments first next },
 }
 
 // Every present segment at u is offered, from u's note.
 fn relax(
-    posts: usize,
+    net: IndexedNet<'_>,
     u: usize,
-    a: &[u16],
-    b: &[u16],
-    weights: &[u32],
     present: &[bool],
-    first: &[u16],
-    next: &[u16],
     settled: &[bool],
     dist: &mut [u64],
     ladder: &mut [u64],
 )
-    requires sides { Sides posts a.now b.now weights.now present.now }
-    requires index_of { IndexOf posts a.now b.now first.now next.now }
-    requires u_lt_posts { (u < posts) × (note dist.old u < none_yet) × (posts ≤ length settled.now)
-        × (posts ≤ length dist.old) × (2 * posts ≤ length ladder.old) }
-    requires open_posts { OpenPosts posts (note dist.old) (flag settled.now) (note ladder.old) }
-    ensures relaxed { Relaxed a.now b.now weights.now present.now
-        u (note dist.old u) (note dist.old) (note dist.new) }
-    ensures open_posts_2 { OpenPosts posts (note dist.new) (flag settled.now)
+    requires sides { Sides net.posts net.segments.a.now net.segments.b.now net.segments.lengths.now present.now }
+    requires u_lt_posts { (u < net.posts) × (note dist.old u < none_yet) × (net.posts ≤ length settled.now)
+        × (net.posts ≤ length dist.old) × (2 * net.posts ≤ length ladder.old) }
+    requires open_posts { OpenPosts net.posts (note dist.old) (flag settled.now) (note ladder.old) }
+    ensures relaxed { Relaxed net.entry.segments.a.now net.entry.segments.b.now net.entry.segments.lengths.now
+        present.now u (note dist.old u) (note dist.old) (note dist.new) }
+    ensures open_posts_2 { OpenPosts net.entry.posts (note dist.new) (flag settled.now)
         (note ladder.new) }
 {
+    let segments = net.segments;
     let du = dist[u];
-    let mut c = hanging::at16(first, u);
+    let mut c = usize::from(at(net.first, u, 0));
     while c > 0 {
         let i = (c - 1) / 2;
         if present[i] {
-            let x = hanging::at16(a, i);
-            let y = hanging::at16(b, i);
-            let far = du + net::plain::wide(hanging::at32(weights, i));
-            offer(posts, u, x, y, far, settled, dist, ladder);
+            let x = usize::from(segments.a[i]);
+            let y = usize::from(segments.b[i]);
+            let far = du + u64::from(segments.lengths[i]);
+            offer(net.posts, u, x, y, far, settled, dist, ladder);
         }
-        c = hanging::at16(next, c);
+        c = usize::from(at(net.next, c, 0));
     }
 }
 
 // The least lengths from `source` over the present segments, by the net's index: the nearest post is settled, one after
 // the other.
-pub fn search(
-    posts: usize,
-    source: usize,
-    a: &[u16],
-    b: &[u16],
-    weights: &[u32],
-    present: &[bool],
-    first: &[u16],
-    next: &[u16],
-    dist: &mut [u64],
-)
-    requires sides { Sides posts a.now b.now weights.now present.now }
-    requires index_of { IndexOf posts a.now b.now first.now next.now }
-    requires source_lt_posts { (source < posts) × (posts ≤ most_posts) × (posts ≤ length dist.old) }
-    ensures least_lengths { dist.new ≡ least (segments_by a.entry b.entry weights.entry)
-        (flag present.now) (note weights.now) posts source ++ drop posts dist.old }
+pub fn search(net: IndexedNet<'_>, source: usize, present: &[bool], dist: &mut [u64])
+    requires sides { Sides net.posts net.segments.a.now net.segments.b.now net.segments.lengths.now present.now }
+    requires source_lt_posts { (source < net.posts) × (net.posts ≤ most_posts) × (net.posts ≤ length dist.old) }
+    ensures least_lengths { dist.new ≡ least (segments_in net.entry.segments)
+        (flag present.now) (note net.entry.segments.lengths.now) net.entry.posts source
+        ++ drop net.entry.posts dist.old }
 {
-    let mut settled = [false; MOST_POSTS];
+    let mut settled = [false; POST_PLACES];
     let mut ladder = [NONE_YET; MOST_RUNGS];
-    clear(posts, source, dist, &mut ladder);
-    let mut u = nearest(posts, &ladder);
-    while u < posts {
+    clear(net.posts, source, dist, &mut ladder);
+    while let Some(u) = nearest(net.posts, &ladder) {
         settled[u] = true;
-        write_up(posts, u, NONE_YET, &mut ladder);
-        relax(
-            posts,
-            u,
-            a,
-            b,
-            weights,
-            present,
-            first,
-            next,
-            &settled,
-            dist,
-            &mut ladder,
-        );
-        u = nearest(posts, &ladder);
+        write_up(net.posts, u, NONE_YET, &mut ladder);
+        relax(net, u, present, &settled, dist, &mut ladder);
     }
 }
 
 // THE TREE. D in `dist`, and the shortest tree, over all segments.
-pub fn shortest_tree(
-    posts: usize,
-    source: usize,
-    a: &[u16],
-    b: &[u16],
-    lengths: &[u32],
-    first: &[u16],
-    next: &[u16],
-    dist: &mut [u64],
-    tree: &mut [u16],
-)
-    requires ends { Ends posts a.now b.now every }
-    requires index_of { IndexOf posts a.now b.now first.now next.now }
-    requires source_lt_posts { (source < posts) × (posts ≤ most_posts) × (length lengths.now ≡ length a.now)
-        × (posts ≤ length dist.old) × (posts ≤ length tree.old) }
+pub fn shortest_tree(net: IndexedNet<'_>, source: usize, dist: &mut [u64], tree: &mut [u16])
+    requires ends { Ends net.posts net.segments.a.now net.segments.b.now every }
+    requires source_lt_posts { (source < net.posts) × (net.posts ≤ most_posts)
+        × (length net.segments.lengths.now ≡ length net.segments.a.now)
+        × (net.posts ≤ length dist.old) × (net.posts ≤ length tree.old) }
     ensures least_lengths { dist.new
-        ≡ the_least_lengths (segments_by a.entry b.entry lengths.entry) every posts source
-        ++ drop posts dist.old }
+        ≡ the_least_lengths (segments_in net.entry.segments) every net.entry.posts source
+        ++ drop net.entry.posts dist.old }
     ensures hung { tree.new
-        ≡ shortest (segments_by a.entry b.entry lengths.entry) every posts source
-        ++ drop posts tree.old }
+        ≡ shortest (segments_in net.entry.segments) every net.entry.posts source
+        ++ drop net.entry.posts tree.old }
 {
-    let present = [true; MOST_SEGMENTS];
-    let m = a.len();
-    search(
-        posts,
-        source,
-        a,
-        b,
-        lengths,
-        &present[..m],
-        first,
-        next,
-        dist,
-    );
-    hanging::hang(posts, a, b, lengths, &present[..m], dist, tree);
+    let all = [true; MOST_SEGMENTS];
+    let present = &all[..net.segments.a.len()];
+    search(net, source, present, dist);
+    hanging::hang(net.posts, net.segments, present, dist, tree);
 }
 
-// The lowest post whose note is "none yet", or `posts` where every post has a note.
-pub fn lowest_apart(posts: usize, dist: &[u64]) -> usize
-    requires { posts ≤ length dist.now }
-    ensures lowest { LowestApart posts (note dist.now) result }
+// The lowest post whose note is "none yet", if there is one: a note stands for each post.
+pub fn lowest_apart(dist: &[u64]) -> Option<usize>
+    ensures lowest { LowestApart (length dist.now) (note dist.now) result }
 {
-    let mut v = 0;
-    while v < posts {
-        if dist[v] >= NONE_YET {
-            return v;
-        }
-        v += 1;
-    }
-    v
+    dist.iter().position(|d| *d >= NONE_YET)
 }

@@ -7,43 +7,20 @@ use mathlib.Core.Logic.{◌⊎◌, inl, inr, ⊎_elim}
 use Prim.Native.Nat.{ℕ, ◌+◌, ◌-◌, ◌*◌, ◌/◌, ◌<◌, ◌≤◌}
 use native.Mathlib.Nat.{le_refl, le_of_eq}
 use native.Mathlib.Omega.{arith}
-use lib.ListN.{length, set, length-set}
+use lib.ListN.{length, set, replicate, length-set, length-replicate, get_or-replicate}
 use lib.Seq.{get_or-set_same, get_or-set_other}
 use Rattle.net.specs.Words.{sum, counted, no_segment}
 use Rattle.net.specs.Net.{every, most_posts}
 use Rattle.net.proofs.Words.{clash, counted_le}
 use Rattle.net.proofs.Sums.{sum_le, sum_ones, sum_drop}
-use Rattle.hanging.specs.Lists.{flag, note, Ends, Filled}
+use Rattle.hanging.specs.Lists.{flag, note, Ends}
 use Rattle.hanging.proofs.Lists.{last?, stored}
 use Rattle.shortest.specs.Notes.{Joins}
 use Rattle.shortest.specs.Rows.{On, Index}
 use Rattle.shortest.proofs.Rows.{on_pos, split, joins_on}
 use Rattle.trees.specs.Along.{Across, Reaching, Begun, Stepped, Grows, Crossed}
 
--- ACROSS A SEGMENT, by the two tests
-module _ {x y u : ℕ} where
-  pub across_forth : x ≡ u → Across x y u y
-  across_forth e = record { all = λ v j. there v j; one = inl (Joins.forth e refl) }
-    where
-      there : (v : ℕ) → Joins x y u v → y ≡ v
-      there v (Joins.forth p q) = q
-      there v (Joins.back p q) = p ∙ sym e ∙ q
-
-  pub across_back : (x ≡ u → ⊥) → y ≡ u → Across x y u x
-  across_back n e = record { all = λ v j. there v j; one = inl (Joins.back e refl) }
-    where
-      there : (v : ℕ) → Joins x y u v → x ≡ v
-      there v (Joins.forth p q) = absurd (n p)
-      there v (Joins.back p q) = q
-
-  pub across_none : (x ≡ u → ⊥) → (y ≡ u → ⊥) → Across x y u u
-  across_none n m = record { all = λ v j. there v j; one = inr refl }
-    where
-      there : (v : ℕ) → Joins x y u v → u ≡ v
-      there v (Joins.forth p q) = absurd (n p)
-      there v (Joins.back p q) = absurd (m p)
-
--- it is a post
+-- ACROSS A SEGMENT there is a post
 pub across_in : {n i x y u w : ℕ} {a b : List ℕ} → Ends n a b every → i < length a → u < n → x ≡ note a i → y ≡ note b i → Across x y u w → w < n
 across_in {n} {i} {x} {y} {u} {w} z l h ex ey k = ⊎_elim (λ j. there j) (λ e. omega arith) k.one
   where
@@ -151,9 +128,6 @@ module _ {a b : List ℕ} {marks : List Bool} {u : ℕ} where
 -- ALONG u'S ROW, at code c: where a marked segment leads is reached, or the segment is still on the row
 pub record Rowing (n : ℕ) (a b : List ℕ) (marks : List Bool) (next : List ℕ) (u c count₀ : ℕ) (R₀ : List Bool) (Q₀ T₀ : List ℕ) (count : ℕ) (R : List Bool) (Q T : List ℕ) : Type 0 where
   pub low : c ≤ 2 * length a
-  pub flags : length R ≡ length R₀
-  pub places : length Q ≡ length Q₀
-  pub entries : length T ≡ length T₀
   pub reaching : Reaching n count R Q T
   pub grows : Grows a b marks u count₀ R₀ Q₀ T₀ count R Q T
   pub rest : (i v : ℕ) → i < length a → flag marks i ≡ true → Joins (note a i) (note b i) u v → (flag R v ≡ true) ⊎ ((k : ℕ) × On (note next) k c × ((k - 1) / 2 ≡ i))
@@ -162,18 +136,15 @@ module _ {n : ℕ} {a b : List ℕ} {marks : List Bool} {next : List ℕ} {u : �
   pub rowing : {c count : ℕ} {first : ℕ → ℕ} {R : List Bool} {Q T : List ℕ} → u < n → Index (note a) (note b) n (2 * length a) (length a) (length a) first (note next) → c ≡ first u
       → Reaching n count R Q T → Rowing n a b marks next u c count R Q T count R Q T
   rowing h I e z =
-      rw e (record { low = I.tops u h; flags = refl; places = refl; entries = refl; reaching = z; grows = grows_none; rest = λ i v k m j. inr (joins_on h I i v k j) })
+      rw e (record { low = I.tops u h; reaching = z; grows = grows_none; rest = λ i v k m j. inr (joins_on h I i v k j) })
 
   -- the segment at c is marked, and its other end is w
   pub rowing_more : {c c' i w x y count₀ count many : ℕ} {R₀ R R' : List Bool} {Q₀ T₀ Q T Q' T' : List ℕ} → Rowing n a b marks next u c count₀ R₀ Q₀ T₀ count R Q T → flag R₀ u ≡ true
       → (c - 1) / 2 ≡ i → i < length a → flag marks i ≡ true → x ≡ note a i → y ≡ note b i → Across x y u w → w < n → Stepped w i count R Q T many R' Q' T'
-      → length R' ≡ length R → length Q' ≡ length Q → length T' ≡ length T → c' ≡ note next c → c' < c → Rowing n a b marks next u c' count₀ R₀ Q₀ T₀ many R' Q' T'
-  rowing_more {c} {c'} {i} {w} {R' = R'} W s ei l m ex ey k h o er eq et ec less =
+      → c' ≡ note next c → c' < c → Rowing n a b marks next u c' count₀ R₀ Q₀ T₀ many R' Q' T'
+  rowing_more {c} {c'} {i} {w} {R' = R'} W s ei l m ex ey k h o ec less =
       record {
         low = omega (arith, W.low);
-        flags = er ∙ W.flags;
-        places = eq ∙ W.places;
-        entries = et ∙ W.entries;
         reaching = reaching_step W.reaching h o;
         grows = grows_step W.grows s W.reaching h l m (rw (ex, ey) at k) o;
         rest = λ j v q p f.
@@ -192,9 +163,6 @@ module _ {n : ℕ} {a b : List ℕ} {marks : List Bool} {next : List ℕ} {u : �
   rowing_skip W ei f ec less =
       record {
         low = omega (arith, W.low);
-        flags = W.flags;
-        places = W.places;
-        entries = W.entries;
         reaching = W.reaching;
         grows = W.grows;
         rest = λ j v q p k.
@@ -212,24 +180,24 @@ module _ {n : ℕ} {a b : List ℕ} {marks : List Bool} {next : List ℕ} {u : �
   rowed W = record { all = λ i v h m j. ⊎_elim (λ t. t) (λ t. absurd (omega (arith, on_pos t.1))) (W.rest i v h m j) }
 
 -- AT FIRST: the source is reached, no other post is, and every entry says so
-pub begun : {n s : ℕ} (R : List Bool) (Q : List ℕ) {T : List ℕ} {l : ℕ → ℕ} → s < n → n ≤ most_posts → length T ≡ n → n ≤ length R → n ≤ length Q → ((v : ℕ) → flag R v ≡ false)
-    → Filled n no_segment l (note T) → Begun n s (set R s true) (set Q 0 s) T
-begun {n} {s} R Q {T} h few k i j f g =
+pub begun : {n s : ℕ} (R : List Bool) (Q : List ℕ) {T : List ℕ} → s < n → n ≤ most_posts → T ≡ replicate n no_segment → n ≤ length R → n ≤ length Q → ((v : ℕ) → flag R v ≡ false)
+    → Begun n s (set R s true) (set Q 0 s) T
+begun {n} {s} R Q {T} h few e i j f =
     record {
       reaching =
           record {
             few = few;
-            entries = k;
+            entries = rw e (length-replicate n no_segment);
             flags = omega (arith, length-set R s true);
             places = omega (arith, length-set Q 0 s);
             many = omega (arith, reached_more n R s h (omega arith) (f s));
             queued = λ x p. let e : x ≡ 0 = omega arith in rw (e, head) (h, now_reached);
             each = λ v p t. (0, omega arith, head ∙ sym (only v t));
-            bare = λ v p _. g.gone v p;
+            bare = λ v p _. none_hung v p;
           };
       source_in = now_reached;
       no_other = only;
-      none_hung = g.gone;
+      none_hung = none_hung;
     }
   where
     now_reached : flag (set R s true) s ≡ true
@@ -240,3 +208,6 @@ begun {n} {s} R Q {T} h few k i j f g =
 
     only : (v : ℕ) → flag (set R s true) v ≡ true → v ≡ s
     only v t = ⊎_elim (λ p. p.0) (λ p. absurd (clash t (p.1 ∙ f v))) (stored R s v true false (omega arith))
+
+    none_hung : (v : ℕ) → v < n → note T v ≡ no_segment
+    none_hung v p = rw e (get_or-replicate n v no_segment 0 p)

@@ -3,12 +3,12 @@
 -- ratios (`ready_plain`), and has the same lightest tree (`plain_lightest`). Rests on net's laws of own ratios; building and margin cite it.
 use mathlib.Core.Path.{◌≡◌, refl, sym, ap, ◌∙◌}
 use mathlib.Core.Bool.{Bool, true, false, cond}
-use mathlib.Core.List.{List, [], ◌++◌}
+use mathlib.Core.List.{List, []}
 use mathlib.Core.Option.{none}
 use Prim.Native.Nat.{ℕ, ◌≤◌, ◌<◌}
 use native.Mathlib.Omega.{arith}
 use lib.Dec.{eqb, ltb}
-use lib.ListN.{length, get_or, drop, length-append, get_or-append}
+use lib.ListN.{length, get_or}
 use borrow.Author.Tests.{eqb-false, eq-eqb, ne_eqb, le-ltb}
 use Rattle.net.specs.Net.{Ratio, house, ratio_at, own_of, net_with, ratios_of, every}
 use Rattle.net.specs.Refusals.{room_of_ratios}
@@ -65,14 +65,13 @@ module _ (head : Head) (p q : List ℕ) (segs : List Segment) (enough : head.pos
   pub number_q : the_number_for head head.q q v ≡ q_of (net_with head (ratios_of p q) segs) v
   number_q = number_is (λ (r : Ratio). r.q) q refl
 
--- a list with the numbers at its front
-module _ (head : Head) (x : ℕ) (own l : List ℕ) {list : List ℕ} (is : list ≡ numbers_for head x own ++ drop head.posts l) where
+-- a list of the numbers
+module _ (head : Head) (x : ℕ) (own : List ℕ) {list : List ℕ} (is : list ≡ numbers_for head x own) where
   pub numbers_at : (v : ℕ) → v < head.posts → get_or list v 0 ≡ the_number_for head x own v
-  numbers_at v h =
-      rw is (get_or-append (numbers_for head x own) (drop head.posts l) 0 v (omega (arith, length_tab (the_number_for head x own) head.posts)) ∙ tab_at (the_number_for head x own) head.posts v 0 h)
+  numbers_at v h = rw is (tab_at (the_number_for head x own) head.posts v 0 h)
 
-  pub numbers_long : head.posts ≤ length list
-  numbers_long = omega (arith, ap length is, length-append (numbers_for head x own) (drop head.posts l), length_tab (the_number_for head x own) head.posts)
+  pub numbers_long : length list ≡ head.posts
+  numbers_long = rw is (length_tab (the_number_for head x own) head.posts)
 
 -- 8 does not hold of as many ratios as posts
 pub room_none : (posts k : ℕ) → posts ≤ k → FirstOf (room_of_ratios posts k) none

@@ -17,7 +17,6 @@ use Rattle.lightest.specs.Marks.{there, Fit}
 use Rattle.lightest.specs.Order.{Sortable}
 use Rattle.lightest.proofs.Fitting.{inside_fit}
 use Rattle.lightest.proofs.Presence.{belonging_every}
-use Rattle.shortest.specs.Rows.{Index}
 use Rattle.shortest.proofs.Trees.{length_first, first_at}
 use Rattle.between.specs.Given.{Level, Ratios}
 use Rattle.between.specs.Asked.{Walkable, walked_of, ThirdTree}
@@ -36,10 +35,6 @@ all_there m h = record { one_each = length_first 2048 m true h; all_true = λ i 
 -- all segments have ends that are posts, so some have
 pub some_ends : {n : ℕ} {a b : List ℕ} {ok : ℕ → Bool} → Ends n a b every → Ends n a b ok
 some_ends z = record { b_many = z.b_many; few = z.few; a_in = λ i h o. z.a_in i h refl; b_in = λ i h o. z.b_in i h refl }
-
--- an index by the head's number of posts
-pub index_at : {a b f g : ℕ → ℕ} {posts n t k l : ℕ} → posts ≡ n → Index a b n t k l f g → Index a b posts t k l f g
-index_at e z = rw e z
 
 -- a list of as many entries as are made anew
 pub front_only : (n : ℕ) (g l t : List ℕ) → length l ≡ n → t ≡ g ++ drop n l → t ≡ g
@@ -69,9 +64,6 @@ module _ {head : Head} {p q a b lengths : List ℕ} (r : Ready head p q a b leng
 
   -- posts and source: the head's as indices
   module _ {posts : ℕ} (posts-is : posts ≡ head.posts) where
-    pub ends_at : {ok : ℕ → Bool} → Ends posts a b ok
-    ends_at = rw posts-is (some_ends ready_ends)
-
     pub fit_at : {present : List Bool} → AllThere present (length a) → Fit posts a b lengths present
     fit_at {present} z =
         rw posts-is
@@ -88,36 +80,36 @@ module _ {head : Head} {p q a b lengths : List ℕ} (r : Ready head p q a b leng
       unfolding lightest_of
       lightest_at e = e ∙ rw (posts-is, source_is)
 
-      -- what `shortest_tree` leaves in two lists with an entry for each post
-      pub worked_at : {d t : List ℕ} (d₀ t₀ : List ℕ) → length d₀ ≡ head.posts → length t₀ ≡ head.posts
-          → d ≡ the_least_lengths (segments_of a b lengths) every posts source ++ drop posts d₀
-          → t ≡ shortest (segments_of a b lengths) every posts source ++ drop posts t₀
-          → Worked (net_at head p q a b lengths) d t
-      unfolding least_lengths_of shortest_of
-      worked_at {d} {t} d₀ t₀ k l e f =
-          record {
-            lengths_are = rw (posts-is, source_is) at (front_only posts (the_least_lengths (segments_of a b lengths) every posts source) d₀ d (k ∙ sym posts-is) e);
-            tree_is = rw (posts-is, source_is) at (front_only posts (shortest (segments_of a b lengths) every posts source) t₀ t (l ∙ sym posts-is) f);
-          }
+  -- what `shortest_tree` leaves in two lists with an entry for each post
+  pub worked_at : {d t : List ℕ} (d₀ t₀ : List ℕ) → length d₀ ≡ head.posts → length t₀ ≡ head.posts
+      → d ≡ the_least_lengths (segments_of a b lengths) every head.posts head.source ++ drop head.posts d₀
+      → t ≡ shortest (segments_of a b lengths) every head.posts head.source ++ drop head.posts t₀
+      → Worked (net_at head p q a b lengths) d t
+  unfolding least_lengths_of shortest_of
+  worked_at {d} {t} d₀ t₀ k l e f =
+      record {
+        lengths_are = front_only head.posts (the_least_lengths (segments_of a b lengths) every head.posts head.source) d₀ d k e;
+        tree_is = front_only head.posts (shortest (segments_of a b lengths) every head.posts head.source) t₀ t l f;
+      }
 
   module _ {source : ℕ} (source_is : source ≡ head.source) {dist short : List ℕ} (w : Worked (net_at head p q a b lengths) dist short) where
     pub dist_long : length dist ≡ head.posts
     dist_long = ap length w.lengths_are ∙ length_lengths (length (segments_of a b lengths)) head (own_of head (ratios_of p q)) a b lengths level_at (le_refl _) r.sound
 
     -- the third tree at each post's ratio: what is asked, and what is left
-    module _ (enough : head.posts ≤ length (ratios_of p q)) {x y : List ℕ} (l m : List ℕ) (x-is : x ≡ numbers_for head head.p p ++ drop head.posts l) (y-is : y ≡ numbers_for head head.q q ++ drop head.posts m) where
+    module _ (enough : head.posts ≤ length (ratios_of p q)) {x y : List ℕ} (x-is : x ≡ numbers_for head head.p p) (y-is : y ≡ numbers_for head head.q q) where
       x_at : (v : ℕ) → v < head.posts → get_or x v 0 ≡ p_of (net_at head p q a b lengths) v
-      x_at v h = numbers_at head head.p p l x-is v h ∙ number_p head p q (segments_of a b lengths) enough v h
+      x_at v h = numbers_at head head.p p x-is v h ∙ number_p head p q (segments_of a b lengths) enough v h
 
       y_at : (v : ℕ) → v < head.posts → get_or y v 0 ≡ q_of (net_at head p q a b lengths) v
-      y_at v h = numbers_at head head.q q m y-is v h ∙ number_q head p q (segments_of a b lengths) enough v h
+      y_at v h = numbers_at head head.q q y-is v h ∙ number_q head p q (segments_of a b lengths) enough v h
 
       each_ratio : Ratios head.posts x y
       each_ratio =
           let s = post_ratio_sound (net_at head p q a b lengths) every (length (segments_of a b lengths)) r.sound (all_own head (ratios_of p q) (segments_of a b lengths) enough) in
           record {
-            p_long = numbers_long head head.p p l x-is;
-            q_long = numbers_long head head.q q m y-is;
+            p_long = omega (arith, numbers_long head head.p p x-is);
+            q_long = omega (arith, numbers_long head head.q q y-is);
             p_most = λ v k. omega (arith, x_at v k, (s v k).small_p);
             q_most = λ v k. omega (arith, y_at v k, (s v k).small_q);
             q_some = λ v k. omega (arith, y_at v k, (s v k).some_q);

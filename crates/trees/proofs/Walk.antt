@@ -57,8 +57,6 @@ light n s a b lengths = lightest (segments_of a b lengths) every n s
 -- the first k of the queue are done
 pub record Hanging (n s : ℕ) (a b lengths : List ℕ) (marks : List Bool) (k count : ℕ) (R : List Bool) (Q T : List ℕ) : Type 0 where
   pub up_to : k ≤ count
-  pub flags : length R ≡ 256
-  pub places : length Q ≡ 256
   pub reaching : Reaching n count R Q T
   pub source_in : flag R s ≡ true
   pub joined : (v : ℕ) → v < n → flag R v ≡ true → Chain (segments_of a b lengths) every s v
@@ -78,12 +76,10 @@ module _ {n s : ℕ} {a b lengths : List ℕ} (r : Held n s a b lengths) {marks 
   source_bare = light_source (segments_of a b lengths) every n r.inside r.small r.few s r.below
 
   -- AT FIRST
-  pub hanging_none : {R : List Bool} {Q T : List ℕ} → length R ≡ 256 → length Q ≡ 256 → Begun n s R Q T → Hanging n s a b lengths marks 0 1 R Q T
-  hanging_none z y w =
+  pub hanging_none : {R : List Bool} {Q T : List ℕ} → Begun n s R Q T → Hanging n s a b lengths marks 0 1 R Q T
+  hanging_none w =
       record {
         up_to = omega arith;
-        flags = z;
-        places = y;
         reaching = w.reaching;
         source_in = w.source_in;
         joined = λ v h t. rw (w.no_other v t) (stay (segments_of a b lengths));
@@ -142,12 +138,10 @@ module _ {n s : ℕ} {a b lengths : List ℕ} (r : Held n s a b lengths) {marks 
         new_above : flag R' (parent (segments_of a b lengths) (light n s a b lengths) v) ≡ true
         new_above = rw (new_hung, (leads_back (segments_of a b lengths) new_leads).across) (g.still u u_reached)
 
-      pub hanging_more : length R' ≡ 256 → length Q' ≡ 256 → Reaching n c' R' Q' T' → Crossed a b marks u R' → Hanging n s a b lengths marks (k + 1) c' R' Q' T'
-      hanging_more er eq y x =
+      pub hanging_more : Reaching n c' R' Q' T' → Crossed a b marks u R' → Hanging n s a b lengths marks (k + 1) c' R' Q' T'
+      hanging_more y x =
           record {
             up_to = omega (arith, g.up_to);
-            flags = er;
-            places = eq;
             reaching = y;
             source_in = g.still s z.source_in;
             joined = λ v h t.

@@ -6,6 +6,8 @@ use Rattle.net.specs.Words.{no_segment, sum, counted}
 use Rattle.net.specs.Net.{most_posts}
 use Rattle.hanging.specs.Lists.{flag, note}
 use Rattle.shortest.specs.Notes.{Joins}
+use Rattle.net.specs.declared.SegmentLists.{SegmentLists}
+use Rattle.trees.specs.declared.Reached.{Reached}
 
 -- where a segment of the ends x and y leads from u, or u itself where neither end is u
 pub record Across (x y u r : ℕ) : Type 0 where
@@ -50,3 +52,14 @@ pub record Grows (a b : List ℕ) (marks : List Bool) (u count : ℕ) (reached :
 -- wherever a marked segment leads from u is reached
 pub record Crossed (a b : List ℕ) (marks : List Bool) (u : ℕ) (reached : List Bool) : Type 0 where
   pub all : (i v : ℕ) → i < length a → flag marks i ≡ true → Joins (note a i) (note b i) u v → flag reached v ≡ true
+
+-- THE SAME OF A WALK as the code holds it
+abbrev pub ReachingIn : ℕ → Reached → List ℕ → Type 0
+ReachingIn n w tree = Reaching n w.count w.flags.now w.queue.now tree
+
+abbrev pub SteppedIn : (w i : ℕ) → Reached → List ℕ → Reached → List ℕ → Type 0
+SteppedIn w i x tree y tree' = Stepped w i x.count x.flags.now x.queue.now tree y.count y.flags.now y.queue.now tree'
+
+abbrev pub GrowsIn : SegmentLists → List Bool → ℕ → Reached → List ℕ → Reached → List ℕ → Type 0
+GrowsIn s marks u x tree y tree' = Grows s.a.now s.b.now marks u x.count x.flags.now x.queue.now tree
+    y.count y.flags.now y.queue.now tree'

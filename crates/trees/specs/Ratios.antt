@@ -9,6 +9,7 @@ use Rattle.net.specs.Ready.{net_at, Ready}
 use Rattle.net.specs.declared.Form.{Form}
 use Rattle.net.specs.declared.Form.TheVariants.{First, Second}
 use Rattle.net.specs.declared.Head.{Head}
+use Rattle.net.specs.declared.SegmentLists.{SegmentLists}
 
 -- one number of the ratio of post v, p or q: x is that of the house ratio, which rules every post in the first form and
 -- stands for the source's in the second; the others have their own
@@ -26,6 +27,9 @@ numbers_for h x own = tab h.posts (the_number_for h x own)
 -- NO OWN RATIO. The net of a head and of three slices of segments
 abbrev pub plain_by : Head → Bor (List ℕ) → Bor (List ℕ) → Bor (List ℕ) → Net
 plain_by head a b lengths = net_at head [] [] a.now b.now lengths.now
+
+abbrev pub plain_in : Head → SegmentLists → Net
+plain_in head s = plain_by head s.a s.b s.lengths
 
 -- nothing from 1 to 7 refuses it
 abbrev pub Plain : Head → (a b lengths : List ℕ) → Type 0

@@ -1,12 +1,11 @@
 -- What the trees are worked out from, marks that are all true, the least lengths and the shortest tree; and what their
 -- preparation leaves (`Prepares`). Relies on net's definitions; the contracts of this crate cite it.
-use Rattle.std.specs.Prelude.{◌≡◌, Bool, true, false, List, ℕ, ◌<◌, length, get_or}
+use Rattle.std.specs.Prelude.{◌≡◌, Bool, true, false, List, Result, Ok, Err, ℕ, ◌<◌, length, get_or}
 use Rattle.std.proofs.Math.Option.{none, some}
 use Rattle.net.specs.Net.{Net, every}
 use Rattle.net.specs.Refusals.{refusal, first, joined_lines}
 use Rattle.net.specs.Building.{lightest_of, shortest_of, least_lengths_of, between_of, laid_of, joined_to_source}
-use Rattle.trees.specs.declared.Prepared.{Prepared}
-use Rattle.trees.specs.declared.Prepared.TheVariants.{Joined, Apart}
+use Rattle.net.specs.declared.Refusal.{Refusal}
 
 -- a mark for each of m segments, and all of them true
 pub record AllThere (present : List Bool) (m : ℕ) : Type 0 where
@@ -36,8 +35,10 @@ pub record LeftApart (n : Net) (v : ℕ) (light third light' third' : List ℕ) 
   pub light_kept : light' ≡ light
   pub third_kept : third' ≡ third
 
--- THE PREPARATION, where two of the four lists held light and third: its answer r, and what the lists hold then
-pub record Prepares (n : Net) (light third : List ℕ) (r : Prepared) (dist light' short third' : List ℕ) : Type 0 where
-  pub worked : Worked n dist short
-  pub apart : {v : ℕ} → r ≡ Apart v → LeftApart n v light third light' third'
-  pub joined : {laid : ℕ} → r ≡ Joined laid → LeftJoined n laid light' short third'
+-- THE PREPARATION, where two of the four lists held light and third: its answer r, the count of laid paths or 9, and
+-- what the lists hold then
+pub record Prepares (n : Net) (light third : List ℕ) (r : Result ℕ Refusal) (dist light' short third' : List ℕ) : Type 0
+  where
+    pub worked : Worked n dist short
+    pub apart : {e : Refusal} → r ≡ Err e → (v : ℕ) × (e ≡ refusal 9 v) × LeftApart n v light third light' third'
+    pub joined : {laid : ℕ} → r ≡ Ok laid → LeftJoined n laid light' short third'

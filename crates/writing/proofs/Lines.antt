@@ -10,8 +10,8 @@ use Rattle.net.specs.Rules.{HeadSound, RatioSound, SegmentSound, HeadRule, Ratio
 use Rattle.net.specs.declared.Segment.{Segment}
 use Rattle.net.specs.declared.Head.{Head}
 use Rattle.net.specs.declared.Refusal.{Refusal}
-use Rattle.net.specs.declared.Checked.{Checked}
-use Rattle.net.specs.declared.Checked.TheVariants.{Sound, Refused}
+use Rattle.net.specs.Refusals.{Checked}
+use Rattle.std.specs.Prelude.{Ok, Err}
 use Rattle.net.proofs.Tables.{first_of, first_only, first_is}
 use Rattle.net.proofs.Faults as F
 
@@ -49,10 +49,10 @@ module _ (posts : ℕ) (s : Segment) (i : ℕ) where
   segment_sound e = F.segment_sound posts s i (first_is e)
 
 -- what a check's answer says of the lines
-pub refused_lines : (o : Option Refusal) (v : Checked) (r : Refusal) → v ≡ checked_of o → v ≡ Refused r → o ≡ some r
+pub refused_lines : (o : Option Refusal) (v : Checked) (r : Refusal) → v ≡ checked_of o → v ≡ Err r → o ≡ some r
 refused_lines none v r e f = let z : ◌≡◌ {A = ℕ} 0 1 = cc in absurd (omega arith)
 refused_lines (some q) v r e f = cc
 
-pub sound_lines : (o : Option Refusal) (v : Checked) → v ≡ checked_of o → v ≡ Sound → o ≡ none
+pub sound_lines : (o : Option Refusal) (v : Checked) → v ≡ checked_of o → v ≡ Ok tt → o ≡ none
 sound_lines none v e f = refl
 sound_lines (some q) v e f = let z : ◌≡◌ {A = ℕ} 0 1 = cc in absurd (omega arith)

@@ -1,5 +1,5 @@
 -- What the contract of `write` and `write_sound` comes to: two outcomes that it allows are equal; what the answer says in document 01's words; what was written where the
--- answer is Written, and that a sound net is written where enough ratios are lent and the room is long enough. Relies on RuledWriting.
+-- answer is `Ok`, and that a sound net is written where enough ratios are lent and the room is long enough. Relies on RuledWriting.
 use Prim.Native.Nat.{ℕ, ◌≤◌}
 use mathlib.Core.Path.{◌≡◌, refl, sym, ◌∙◌}
 use mathlib.Core.List.{List}
@@ -14,12 +14,11 @@ use Rattle.writing.specs.Writing.{net_written, write_refusal, after_writing, the
 use Rattle.writing.specs.Rules.{WriteRule}
 use Rattle.writing.specs.Rules as R
 use Rattle.writing.specs.Answers.{write_answer_by, write_answer_of, said_size, says_written, Writes}
-use Rattle.writing.specs.declared.WriteAnswer.{WriteAnswer}
-use Rattle.writing.specs.declared.WriteAnswer.TheVariants.{Written}
+use Rattle.std.specs.Prelude.{Result, Ok}
 use Rattle.writing.proofs.RuledWriting.{write_answers, write_only}
 
 -- TWO OUTCOMES ARE EQUAL
-pub write_unique : (n : Net) (m k : ℕ) (room : List ℕ) (r r' : WriteAnswer) (x x' : List ℕ) → Writes n m k room r x → Writes n m k room r' x' → (r ≡ r') × (x ≡ x')
+pub write_unique : (n : Net) (m k : ℕ) (room : List ℕ) (r r' : Result ℕ Refusal) (x x' : List ℕ) → Writes n m k room r x → Writes n m k room r' x' → (r ≡ r') × (x ≡ x')
 write_unique n m k room r r' x x' w v = (w.answers ∙ sym v.answers, w.leaves ∙ sym v.leaves)
 
 -- WHAT THE ANSWER SAYS: the definition's result or refusal
@@ -42,11 +41,11 @@ pub record WasWritten (n : Net) (m k : ℕ) (room : List ℕ) (size : ℕ) (x : 
 
 -- a sound net is written where as many ratios are lent as it has posts, and the room is long enough
 pub sound_writes : (n : Net) (m k : ℕ) (room : List ℕ) → NetSound every m n → n.head.posts ≤ k → length (net_written n) ≤ length room
-    → (write_answer_of n m k (length room) ≡ Written (length (net_written n))) × (the_room_after n m k room ≡ onto (net_written n) room)
+    → (write_answer_of n m k (length room) ≡ Ok (length (net_written n))) × (the_room_after n m k room ≡ onto (net_written n) room)
 unfolding write_answer_of the_room_after
 sound_writes n m k room s h l = let e : write_refusal n m k (length room) ≡ none = sym (write_only m n k (length room) (R.WriteRule.nothing s h l)) in (rw e, rw e)
 
-pub was_written : (n : Net) (m k : ℕ) (room : List ℕ) (r : WriteAnswer) (x : List ℕ) (size : ℕ) → Writes n m k room r x → r ≡ Written size → WasWritten n m k room size x
+pub was_written : (n : Net) (m k : ℕ) (room : List ℕ) (r : Result ℕ Refusal) (x : List ℕ) (size : ℕ) → Writes n m k room r x → r ≡ Ok size → WasWritten n m k room size x
 unfolding write_answer_of the_room_after
 was_written n m k room r x size w f = go (write_refusal n m k (length room)) (write_answers m n k (length room)) w.answers w.leaves
   where

@@ -1,5 +1,6 @@
--- The form, and the posts' own ratios as the writer meets them, one post after the other: the loops that measure and that put them, and that what a net keeps of the ratios that
--- are lent is written as what is lent (`own_second_is`). Relies on Puts and on net's Own.
+-- The form, and the posts' own ratios as the writer meets them, one post after the other: the loops that measure and
+-- that put them, and that what a net keeps of the ratios that are lent is written as what is lent (`own_second_is`).
+-- Relies on Puts and on net's Own.
 use Prim.Native.Nat.{ℕ, zero, suc, ◌+◌, ◌*◌, ◌<◌, ◌≤◌}
 use mathlib.Core.Path.{◌≡◌, refl, sym, ap, ◌∙◌}
 use mathlib.Core.Bool.{Bool, true, false}
@@ -14,11 +15,12 @@ use Rattle.net.specs.Net.{Ratio, ratio_at, ratios_of, own_of}
 use Rattle.net.specs.declared.Head.{Head}
 use Rattle.net.specs.declared.Form.{Form}
 use Rattle.net.specs.declared.Form.TheVariants.{First, Second}
-use Rattle.net.proofs.Own.{ratios_count, ratio_fields, own_count, own_at}
-use Rattle.numbers.specs.Numbers.{most_numbers, written}
-use Rattle.numbers.specs.Putting.{put}
-use Rattle.writing.specs.Writing.{form_written, ratio_written, unless_source, post_written, posts_written, own_in, own_written, PostFits, OwnSmall, PostsFit}
-use Rattle.writing.proofs.Puts.{put_nothing, Wrote, wrote_first, wrote_nothing, wrote_length, wrote_more, wrote_as}
+use Rattle.net.proofs.Own.{ratio_fields, own_count, own_at}
+use Rattle.numbers.specs.Numbers.{written}
+use Rattle.writing.specs.Writing.{form_written, ratio_written, unless_source, post_written, posts_written, own_in, own_written}
+use Rattle.writing.specs.Putting.{HasRoom, Wrote}
+use Rattle.writing.specs.declared.Page.{Page}
+use Rattle.writing.proofs.Puts.{wrote_none, wrote_then}
 
 -- THE FORM
 pub form_first : (f : Form) → f ≡ First → form_written f ≡ []
@@ -94,24 +96,14 @@ module _ (h : Head) (l : List Ratio) where
       let n : length (own_of h l) ≡ h.posts = omega (arith, own_count h l e) in
       ap (λ (f : Form). own_in f h.source (own_of h l)) e ∙ ap (posts_written h.source (own_of h l) 0) n ∙ posts_same h.source (own_of h l) l 0 h.posts (λ u g ne. own_at h l e u (omega arith) ne)
 
-  pub own_fits : h.form ≡ Second → h.posts ≤ length l → OwnSmall h l → {at room : ℕ} → at + length (own_written h (own_of h l)) ≤ room → PostsFit h.source l h.posts at room
-  own_fits e k s g = record { few_p = s.few_p e; few_q = s.few_q e; room_long = rw (own_second_is e k) at g }
+  pub own_length : h.form ≡ Second → h.posts ≤ length l → length (own_written h (own_of h l)) ≡ length (posts_written h.source l 0 h.posts)
+  own_length e k = ap (λ (w : List ℕ). length w) (own_second_is e k)
 
-  pub own_none_put : h.form ≡ First → (room : List ℕ) (at : ℕ) → (at ≡ at + length (own_written h (own_of h l))) × (room ≡ put at (own_written h (own_of h l)) room)
-  own_none_put e room at = rw (own_first_is e) (omega arith, sym (put_nothing at room))
+  pub own_none_put : h.form ≡ First → {a : Page} → HasRoom (own_written h (own_of h l)) a → Wrote (own_written h (own_of h l)) a a
+  own_none_put e {a} g = rw (own_first_is e) (wrote_none a (omega arith))
 
-  pub own_put : h.form ≡ Second → h.posts ≤ length l → (room : List ℕ) (at : ℕ) {next : ℕ} {after : List ℕ}
-      → next ≡ at + length (posts_written h.source l 0 h.posts) → after ≡ put at (posts_written h.source l 0 h.posts) room
-      → (next ≡ at + length (own_written h (own_of h l))) × (after ≡ put at (own_written h (own_of h l)) room)
-  own_put e k room at f g = rw (own_second_is e k) (f, g)
-
--- as many ratios as posts: both lists are as long
-module _ (ps qs : List ℕ) {posts : ℕ} where
-  pub both_long : posts ≤ length (ratios_of ps qs) → (posts ≤ length ps) × (posts ≤ length qs)
-  both_long h = let c = ratios_count ps qs in (omega arith, omega arith)
-
-  pub long_both : posts ≤ length ps → posts ≤ length qs → posts ≤ length (ratios_of ps qs)
-  long_both h k = let c = ratios_count ps qs in omega arith
+  pub own_put : h.form ≡ Second → h.posts ≤ length l → {a b : Page} → Wrote (posts_written h.source l 0 h.posts) a b → Wrote (own_written h (own_of h l)) a b
+  own_put e k w = rw (own_second_is e k) w
 
 -- THE TWO NUMBERS OF A POST that stand in two lists
 module _ (source : ℕ) (ps qs : List ℕ) (v : ℕ) (h : v < length ps) (k : v < length qs) where
@@ -132,27 +124,12 @@ module _ (source : ℕ) (ps qs : List ℕ) (v : ℕ) (h : v < length ps) (k : v 
     pub two_length : length (post_written source (ratios_of ps qs) v) ≡ length (written (get_or ps v 0)) + length (written (get_or qs v 0))
     two_length = ap (λ (w : List ℕ). length w) two_are ∙ length-append (written (get_or ps v 0)) (written (get_or qs v 0))
 
-    -- what their two steps ask
-    module _ {at room : ℕ} (f : PostFits source (ratios_of ps qs) v at room) where
-      pub first_fits : (get_or ps v 0 < most_numbers) × (at + length (written (get_or ps v 0)) ≤ room)
-      first_fits = (omega (arith, f.few_p ne, p_at), omega (arith, f.room_long, two_length))
-
-      pub second_fits : {i room' : ℕ} → i ≡ at + length (written (get_or ps v 0)) → room' ≡ room → (get_or qs v 0 < most_numbers) × (i + length (written (get_or qs v 0)) ≤ room')
-      second_fits e g = (omega (arith, f.few_q ne, q_at), omega (arith, f.room_long, two_length))
-
-    pub two_put : {l x y : List ℕ} {at i j : ℕ} → at + length (post_written source (ratios_of ps qs) v) ≤ length l
-        → i ≡ at + length (written (get_or ps v 0)) → x ≡ put at (written (get_or ps v 0)) l
-        → j ≡ i + length (written (get_or qs v 0)) → y ≡ put i (written (get_or qs v 0)) x
-        → Wrote l at (post_written source (ratios_of ps qs) v) y j
-    two_put g e₁ r₁ e₂ r₂ =
-        let n = two_length in
-        let w₁ = wrote_first (written (get_or ps v 0)) (omega arith) e₁ r₁ in
-        wrote_as (wrote_more w₁ (written (get_or qs v 0)) (omega arith) e₂ r₂) (sym two_are)
+    pub two_put : {a b d : Page} → Wrote (written (get_or ps v 0)) a b → Wrote (written (get_or qs v 0)) b d → Wrote (post_written source (ratios_of ps qs) v) a d
+    two_put f g = rw two_are (wrote_then f g)
 
 -- of the source nothing is put
-pub none_put : (source : ℕ) (own : List Ratio) (v : ℕ) → v ≡ source → (l : List ℕ) (at : ℕ)
-    → (at ≡ at + length (post_written source own v)) × (l ≡ put at (post_written source own v) l)
-none_put source own v e l at = rw (source_written source own v e) (omega arith, sym (put_nothing at l))
+pub none_put : (source : ℕ) (own : List Ratio) (v : ℕ) → v ≡ source → {a : Page} → a.at ≤ length a.room.now → Wrote (post_written source own v) a a
+none_put source own v e {a} h = rw (source_written source own v e) (wrote_none a h)
 
 -- THE LOOP THAT MEASURES: the first v posts take `size` bytes
 pub record SizedPosts (source : ℕ) (own : List Ratio) (k size v : ℕ) : Type 0 where
@@ -171,33 +148,27 @@ next_post {source} {own} {k} {size} {v} z h e m =
     let o = z.small in
     record { few = omega arith; size_is = rw (posts_more source own v, length-append) (omega arith); small = omega arith }
 
-pub all_posts : {source : ℕ} {own : List Ratio} {k size v : ℕ} → SizedPosts source own k size v → k ≤ v → size ≡ length (posts_written source own 0 k)
-all_posts {source} {own} {k} {size} {v} z h = let e : v ≡ k = omega (arith, z.few) in z.size_is ∙ ap (λ (i : ℕ). length (posts_written source own 0 i)) e
+pub all_posts : {source : ℕ} {own : List Ratio} {k size v : ℕ} → SizedPosts source own k size v → k ≤ v → (size ≡ length (posts_written source own 0 k)) × (size ≤ 8 * k)
+all_posts {source} {own} {k} {size} {v} z h =
+    let e : k ≡ v = omega (arith, z.few) in
+    let o = z.small in
+    (rw e z.size_is, omega arith)
 
--- THE LOOP THAT PUTS: the first v posts are put into the room
-pub record PutPosts (room₀ : List ℕ) (at source : ℕ) (own : List Ratio) (k : ℕ) (room : List ℕ) (next v : ℕ) : Type 0 where
+-- THE LOOP THAT PUTS: the first v posts are put on the page
+pub record PutPosts (source : ℕ) (own : List Ratio) (k v : ℕ) (a b : Page) : Type 0 where
   pub few : v ≤ k
-  pub wrote : Wrote room₀ at (posts_written source own 0 v) room next
+  pub wrote : Wrote (posts_written source own 0 v) a b
 
-pub begin_put_posts : (room₀ : List ℕ) (at source : ℕ) (own : List Ratio) (k : ℕ) → at ≤ length room₀ → PutPosts room₀ at source own k room₀ at 0
+pub begin_put_posts : (source : ℕ) (own : List Ratio) (k : ℕ) (a : Page) → a.at ≤ length a.room.now → PutPosts source own k 0 a a
 unfolding posts_written
-begin_put_posts room₀ at source own k h = record { few = omega arith; wrote = wrote_nothing room₀ at h }
+begin_put_posts source own k a h = record { few = omega arith; wrote = wrote_none a h }
 
-module _ {room₀ room : List ℕ} {at source k next v : ℕ} {own : List Ratio} (p : PutPosts room₀ at source own k room next v) (fit : PostsFit source own k at (length room₀)) where
-  pub post_fits : v < k → PostFits source own v next (length room)
-  post_fits h =
-      let e = p.wrote.next_is in
-      let l = wrote_length p.wrote in
-      record { few_p = fit.few_p v h; few_q = fit.few_q v h; room_long = omega (arith, posts_within source own v k h, fit.room_long) }
+module _ {source k v : ℕ} {own : List Ratio} {a b : Page} (p : PutPosts source own k v a b) (h : v < k) where
+  pub post_room : HasRoom (posts_written source own 0 k) a → HasRoom (post_written source own v) b
+  post_room long = omega (arith, posts_within source own v k h, p.wrote.behind, p.wrote.same)
 
-  pub put_post_on : v < k → {room' : List ℕ} {next' : ℕ} → next' ≡ next + length (post_written source own v) → room' ≡ put next (post_written source own v) room
-      → PutPosts room₀ at source own k room' next' (v + 1)
-  put_post_on h e f =
-      let n = p.wrote.next_is in
-      record {
-        few = omega arith;
-        wrote = wrote_as (wrote_more p.wrote (post_written source own v) (omega (arith, posts_within source own v k h, fit.room_long)) e f) (sym (posts_more source own v));
-      }
+  pub put_post_on : {d : Page} → Wrote (post_written source own v) b d → PutPosts source own k (v + 1) a d
+  put_post_on q = record { few = omega arith; wrote = rw (posts_more source own v) (wrote_then p.wrote q) }
 
-  pub put_posts_all : k ≤ v → Wrote room₀ at (posts_written source own 0 k) room next
-  put_posts_all h = let e : v ≡ k = omega (arith, p.few) in wrote_as p.wrote (ap (posts_written source own 0) e)
+pub put_posts_all : {source k v : ℕ} {own : List Ratio} {a b : Page} → PutPosts source own k v a b → k ≤ v → Wrote (posts_written source own 0 k) a b
+put_posts_all {source} {k} {v} {own} {a} {b} p h = let e : k ≡ v = omega (arith, p.few) in rw e p.wrote

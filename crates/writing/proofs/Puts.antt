@@ -1,18 +1,21 @@
--- Bytes put into a room, one run behind the other: what the writer's steps come to together. Relies on `put` and `onto` of the crate `numbers`.
+-- Bytes put into a room, one run behind the other, and what the steps of writing come to together. Relies on `put` and
+-- `onto` of the crate `numbers`.
 use Prim.Native.Nat.{ℕ, ◌+◌, ◌<◌, ◌≤◌}
 use mathlib.Core.Path.{◌≡◌, refl, sym, ap, ◌∙◌}
 use mathlib.Core.List.{List, [], ◌∷◌, ◌++◌, append_assoc, append-nil}
 use native.Mathlib.Nat.{zero-add, add-zero}
 use native.Mathlib.Omega.{arith}
 use native.Mathlib.Numerals.{add-one}
-use lib.ListN.{length, take, drop, length-append, length-take, length-drop, take-append-drop}
-use lib.Seq.{take-suc, take_all, take_at, drop_at, drop-drop}
+use lib.ListN.{length, take, drop, length-append, length-take, take-append-drop}
+use lib.Seq.{take_all, take-suc, take_at, drop_at, drop-drop}
 use Rattle.net.specs.Net.{nth_segment, beyond}
 use Rattle.net.specs.declared.Segment.{Segment}
 use Rattle.net.specs.declared.Head.{Head}
 use Rattle.numbers.specs.Numbers.{written}
 use Rattle.numbers.specs.Putting.{onto, put}
-use Rattle.writing.specs.Writing.{form_written, numbers_written, head_written, segment_written, segments_written, SegmentFits, SegmentsFit}
+use Rattle.writing.specs.Writing.{form_written, numbers_written, head_written, segment_written, segments_written}
+use Rattle.writing.specs.Putting.{HasRoom, Wrote}
+use Rattle.writing.specs.declared.Page.{Page}
 
 module _ (l u : List ℕ) (at : ℕ) (within : at + length u ≤ length l) where
   front : length (take at l ++ u) ≡ at + length u
@@ -20,9 +23,6 @@ module _ (l u : List ℕ) (at : ℕ) (within : at + length u ≤ length l) where
 
   regrouped : put at u l ≡ (take at l ++ u) ++ drop (at + length u) l
   regrouped = sym (append_assoc (take at l) u (drop (at + length u) l))
-
-  pub length_put : length (put at u l) ≡ length l
-  length_put = simp (length-append, length-take, length-drop) (omega arith)
 
   -- a run behind a run
   pub put_put : (v : List ℕ) → put (at + length u) v (put at u l) ≡ put at (u ++ v) l
@@ -44,34 +44,19 @@ put_onto s l = rw zero-add
 pub put_nothing : (at : ℕ) (l : List ℕ) → put at [] l ≡ l
 put_nothing at l = rw add-zero (take-append-drop at l)
 
--- x is the room l with the run w put into it at `at`; `next` is the next free byte
-pub record Wrote (l : List ℕ) (at : ℕ) (w x : List ℕ) (next : ℕ) : Type 0 where
-  pub within : at + length w ≤ length l
-  pub next_is : next ≡ at + length w
-  pub room_is : x ≡ put at w l
+-- ON A PAGE: nothing, and one run behind another
+pub wrote_none : (a : Page) → a.at ≤ length a.room.now → Wrote [] a a
+wrote_none a h = record { behind = omega arith; holds = sym (put_nothing a.at a.room.now); fits = omega arith; same = refl; room = refl }
 
-pub wrote_first : {l x : List ℕ} {at next : ℕ} (w : List ℕ) → at + length w ≤ length l → next ≡ at + length w → x ≡ put at w l → Wrote l at w x next
-wrote_first w h e f = record { within = h; next_is = e; room_is = f }
-
-pub wrote_nothing : (l : List ℕ) (at : ℕ) → at ≤ length l → Wrote l at [] l at
-wrote_nothing l at h = record { within = omega arith; next_is = omega arith; room_is = sym (put_nothing at l) }
-
-module _ {l w x : List ℕ} {at next : ℕ} (r : Wrote l at w x next) where
-  pub wrote_length : length x ≡ length l
-  wrote_length = rw r.room_is (length_put l w at r.within)
-
-  pub wrote_more : {y : List ℕ} {next' : ℕ} (v : List ℕ) → next + length v ≤ length l → next' ≡ next + length v → y ≡ put next v x → Wrote l at (w ++ v) y next'
-  wrote_more v h e f =
-      let i = r.next_is in
-      record {
-        within = simp length-append (omega arith);
-        next_is = simp length-append (omega arith);
-        room_is = f ∙ rw (r.room_is, i) (put_put l w at r.within v);
-      }
-
-  -- the same run, written another way
-  pub wrote_as : {v : List ℕ} → w ≡ v → Wrote l at v x next
-  wrote_as e = rw e at r
+pub wrote_then : {s t : List ℕ} {a b d : Page} → Wrote s a b → Wrote t b d → Wrote (s ++ t) a d
+wrote_then {s} {t} {a} {b} {d} p q =
+    record {
+      behind = simp length-append (omega (arith, p.behind, q.behind));
+      holds = q.holds ∙ rw (p.holds, p.behind) (put_put a.room.now s a.at p.fits t);
+      fits = simp length-append (omega (arith, p.behind, p.same, q.fits));
+      same = q.same ∙ p.same;
+      room = q.room ∙ p.room;
+    }
 
 -- A HEAD, A SEGMENT, SEGMENTS: the lengths and the runs of which they are made
 pub numbers_length : (h : Head) (count : ℕ) → length (numbers_written h count)
@@ -127,71 +112,26 @@ segment_size s p q e f g =
     let f' = rw q at f in
     omega (arith, segment_length s)
 
-pub segment_put : (s : Segment) {l x y z : List ℕ} {at i j k a b : ℕ} → a ≡ s.a → b ≡ s.b → at + length (segment_written s) ≤ length l
-    → i ≡ at + length (written a) → x ≡ put at (written a) l
-    → j ≡ i + length (written b) → y ≡ put i (written b) x
-    → k ≡ j + length (written s.length) → z ≡ put j (written s.length) y
-    → Wrote l at (segment_written s) z k
-segment_put s p q h e₁ r₁ e₂ r₂ e₃ r₃ =
-    let n = segment_length s in
-    let e₁' = rw p at e₁ in
-    let e₂' = rw q at e₂ in
-    let w₁ = wrote_first (written s.a) (omega arith) e₁' (rw p at r₁) in
-    let w₂ = wrote_more w₁ (written s.b) (omega arith) e₂' (rw q at r₂) in
-    let w₃ = wrote_more w₂ (written s.length) (omega arith) e₃ r₃ in
-    wrote_as w₃ (segment_runs s)
+pub segment_put : (s : Segment) {x y : ℕ} {a b d e : Page} → x ≡ s.a → y ≡ s.b → Wrote (written x) a b → Wrote (written y) b d → Wrote (written s.length) d e
+    → Wrote (segment_written s) a e
+segment_put s f g p q r = rw (← segment_runs s) (wrote_then (wrote_then (rw f at p) (rw g at q)) r)
 
--- a head's numbers
-pub head_put : (h : Head) (count : ℕ) {l x₁ x₂ x₃ x₄ x₅ : List ℕ} {at i₁ i₂ i₃ i₄ i₅ : ℕ} → at + length (numbers_written h count) ≤ length l
-    → i₁ ≡ at + length (written h.posts) → x₁ ≡ put at (written h.posts) l
-    → i₂ ≡ i₁ + length (written h.source) → x₂ ≡ put i₁ (written h.source) x₁
-    → i₃ ≡ i₂ + length (written h.p) → x₃ ≡ put i₂ (written h.p) x₂
-    → i₄ ≡ i₃ + length (written h.q) → x₄ ≡ put i₃ (written h.q) x₃
-    → i₅ ≡ i₄ + length (written count) → x₅ ≡ put i₄ (written count) x₄
-    → Wrote l at (numbers_written h count) x₅ i₅
-head_put h count long e₁ r₁ e₂ r₂ e₃ r₃ e₄ r₄ e₅ r₅ =
-    let n = numbers_length h count in
-    let w₁ = wrote_first (written h.posts) (omega arith) e₁ r₁ in
-    let w₂ = wrote_more w₁ (written h.source) (omega arith) e₂ r₂ in
-    let w₃ = wrote_more w₂ (written h.p) (omega arith) e₃ r₃ in
-    let w₄ = wrote_more w₃ (written h.q) (omega arith) e₄ r₄ in
-    let w₅ = wrote_more w₄ (written count) (omega arith) e₅ r₅ in
-    wrote_as w₅ (numbers_runs h count)
-
--- THE LOOP OVER THE SEGMENTS: the first i of them are put into the room
-pub record PutTo (room₀ : List ℕ) (at : ℕ) (ss : List Segment) (room : List ℕ) (next i : ℕ) : Type 0 where
+-- THE LOOP OVER THE SEGMENTS: the first i of them are put on the page
+pub record PutTo (ss : List Segment) (i : ℕ) (a b : Page) : Type 0 where
   pub few : i ≤ length ss
-  pub wrote : Wrote room₀ at (segments_written (take i ss)) room next
+  pub wrote : Wrote (segments_written (take i ss)) a b
 
-pub begin_put : (room₀ : List ℕ) (at : ℕ) (ss : List Segment) → at + length (segments_written ss) ≤ length room₀ → PutTo room₀ at ss room₀ at 0
+pub begin_put : (ss : List Segment) (a : Page) → HasRoom (segments_written ss) a → PutTo ss 0 a a
 unfolding segments_written
-begin_put room₀ at ss h = record { few = omega arith; wrote = wrote_nothing room₀ at (omega arith) }
+begin_put ss a h = record { few = omega arith; wrote = wrote_none a (omega arith) }
 
-module _ {room₀ room : List ℕ} {at next i : ℕ} {ss : List Segment} (p : PutTo room₀ at ss room next i) where
+module _ {ss : List Segment} {i : ℕ} {a b : Page} (p : PutTo ss i a b) (h : i < length ss) {s : Segment} (e : s ≡ nth_segment ss i) where
   -- there is room for the next segment
-  pub put_room : i < length ss → at + length (segments_written ss) ≤ length room₀ → next + length (segment_written (nth_segment ss i)) ≤ length room
-  put_room h long =
-      let e = p.wrote.next_is in
-      let l = wrote_length p.wrote in
-      omega (arith, segments_within ss i h)
+  pub put_room : HasRoom (segments_written ss) a → HasRoom (segment_written s) b
+  put_room long = rw e (omega (arith, segments_within ss i h, p.wrote.behind, p.wrote.same))
 
-  pub put_next : i < length ss → at + length (segments_written ss) ≤ length room₀ → {room' : List ℕ} {next' : ℕ}
-      → next' ≡ next + length (segment_written (nth_segment ss i)) → room' ≡ put next (segment_written (nth_segment ss i)) room → PutTo room₀ at ss room' next' (i + 1)
-  put_next h long e f =
-      let n = p.wrote.next_is in
-      record {
-        few = omega arith;
-        wrote = wrote_as (wrote_more p.wrote (segment_written (nth_segment ss i)) (omega (arith, segments_within ss i h)) e f) (sym (segments_next ss i h));
-      }
+  pub put_next : {d : Page} → Wrote (segment_written s) b d → PutTo ss (i + 1) a d
+  put_next q = record { few = omega arith; wrote = rw (segments_next ss i h) (wrote_then p.wrote (rw e at q)) }
 
-  pub put_all : length ss ≤ i → room ≡ put at (segments_written ss) room₀
-  put_all h = p.wrote.room_is ∙ ap (λ (l : List Segment). put at (segments_written l) room₀) (take_all i ss h)
-
--- a turn puts segment i
-module _ {room₀ room : List ℕ} {at next i : ℕ} {ss : List Segment} (p : PutTo room₀ at ss room next i) (fit : SegmentsFit ss at (length room₀)) (h : i < length ss)
-    {s : Segment} (e : s ≡ nth_segment ss i) where
-  pub put_fits : SegmentFits s next (length room)
-  put_fits = rw e (record { few_length = fit.few_lengths i h; room_long = put_room p h fit.room_long })
-
-  pub put_on : {room' : List ℕ} {next' : ℕ} → next' ≡ next + length (segment_written s) → room' ≡ put next (segment_written s) room → PutTo room₀ at ss room' next' (i + 1)
-  put_on f g = put_next p h fit.room_long (rw e at f) (rw e at g)
+pub put_all : {ss : List Segment} {i : ℕ} {a b : Page} → PutTo ss i a b → length ss ≤ i → Wrote (segments_written ss) a b
+put_all {ss} {i} p h = rw (take_all i ss h) at p.wrote

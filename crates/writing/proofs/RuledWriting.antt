@@ -23,7 +23,7 @@ module _ (m : ℕ) (n : Net) (k room : ℕ) where
   abbrev last_at : List Line
   last_at = short_lines room (length (net_written n))
 
-  few_ratios : {r : Refusal} → FirstOf room_at (some r) → NetSound every m n → WriteRule m n k room (some r)
+  pub few_ratios : {r : Refusal} → FirstOf room_at (some r) → NetSound every m n → WriteRule m n k room (some r)
   unfolding room_of_ratios
   few_ratios (here p) z = R.WriteRule.eight z (ltb-true _ _ p)
   few_ratios {r = r} (below _ x) z = elim x [ ]

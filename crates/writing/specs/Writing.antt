@@ -2,16 +2,16 @@
 -- and its length", and in the second form "a first number 0, then the old head, then p and q for each post but the
 -- source in rising order, then the segments", each number as the crate `numbers` has it; its refusals, 1 to 7, then 8
 -- of the ratios that are lent, then 18, and the room afterwards. Relies on `numbers` and on net's lines of refusals.
-use Rattle.std.specs.Prelude.{ℕ, zero, suc, ◌+◌, ◌<◌, ◌≤◌, ◌≡◌, Bool, true, false, List, [], ◌∷◌, ◌++◌, eqb, ltb, length}
+use Rattle.std.specs.Prelude.{ℕ, zero, suc, ◌+◌, Bool, true, false, List, [], ◌∷◌, ◌++◌, eqb, ltb, length}
 use Rattle.std.proofs.Math.Option.{Option, none, some}
-use Rattle.net.specs.Net.{Ratio, Net, every, ratio_at, length_at}
+use Rattle.net.specs.Net.{Ratio, Net, every, ratio_at}
 use Rattle.net.specs.Refusals.{Line, line, first, net_lines, room_of_ratios}
 use Rattle.net.specs.declared.Segment.{Segment}
 use Rattle.net.specs.declared.Form.{Form}
 use Rattle.net.specs.declared.Form.TheVariants.{First, Second}
 use Rattle.net.specs.declared.Head.{Head}
 use Rattle.net.specs.declared.Refusal.{Refusal}
-use Rattle.numbers.specs.Numbers.{most_numbers, written}
+use Rattle.numbers.specs.Numbers.{written}
 use Rattle.numbers.specs.Putting.{onto}
 
 -- "a first number 0" in the second form
@@ -84,36 +84,3 @@ after_writing (some r) n l = l
 
 unfoldable pub the_room_after : Net → ℕ → ℕ → List ℕ → List ℕ
 the_room_after n m k l = after_writing (write_refusal n m k (length l)) n l
-
--- WHAT THE STEPS OF WRITING ASK: every number has at most four groups, and the room is long enough
-pub record HeadFits (h : Head) (count at room : ℕ) : Type 0 where
-  pub few_posts : h.posts < most_numbers
-  pub few_source : h.source < most_numbers
-  pub few_p : h.p < most_numbers
-  pub few_q : h.q < most_numbers
-  pub few_count : count < most_numbers
-  pub room_long : at + length (numbers_written h count) ≤ room
-
--- the own ratio of post v, and those of the first k posts
-pub record PostFits (source : ℕ) (own : List Ratio) (v at room : ℕ) : Type 0 where
-  pub few_p : (v ≡ source → ⊥) → (ratio_at own v).p < most_numbers
-  pub few_q : (v ≡ source → ⊥) → (ratio_at own v).q < most_numbers
-  pub room_long : at + length (post_written source own v) ≤ room
-
--- in a net of the second form every post's own numbers, but the source's, have at most four groups
-pub record OwnSmall (h : Head) (own : List Ratio) : Type 0 where
-  pub few_p : h.form ≡ Second → (v : ℕ) → v < h.posts → (v ≡ h.source → ⊥) → (ratio_at own v).p < most_numbers
-  pub few_q : h.form ≡ Second → (v : ℕ) → v < h.posts → (v ≡ h.source → ⊥) → (ratio_at own v).q < most_numbers
-
-pub record PostsFit (source : ℕ) (own : List Ratio) (k at room : ℕ) : Type 0 where
-  pub few_p : (v : ℕ) → v < k → (v ≡ source → ⊥) → (ratio_at own v).p < most_numbers
-  pub few_q : (v : ℕ) → v < k → (v ≡ source → ⊥) → (ratio_at own v).q < most_numbers
-  pub room_long : at + length (posts_written source own 0 k) ≤ room
-
-pub record SegmentFits (s : Segment) (at room : ℕ) : Type 0 where
-  pub few_length : s.length < most_numbers
-  pub room_long : at + length (segment_written s) ≤ room
-
-pub record SegmentsFit (ss : List Segment) (at room : ℕ) : Type 0 where
-  pub few_lengths : (i : ℕ) → i < length ss → length_at ss i < most_numbers
-  pub room_long : at + length (segments_written ss) ≤ room

@@ -1,47 +1,41 @@
 // Writing a net's record, a row of the numbers of the crate `numbers`, in either form. "Writing: 1 to 7", then 8 of the
 // ratios that are lent, "then 18": nothing is written before the whole net is found sound and the room long enough. A
 // net's own ratios stand in two slices side by side, its segments in three; the source's place is not read. What each
-// function promises is an equation with a definition of specs/; `write` asks nothing, and `write_sound` only what the
-// checks have shown. Relies on `checks` for 1 to 7 and on `numbers`; `reading`, which reads a record and has the laws
+// function promises is an equation with a definition of specs/; `write` asks nothing, and `write_sound` nothing but its
+// `SoundNet`. Relies on `checks` for 1 to 7 and on `numbers`; `reading`, which reads a record and has the laws
 // about both ways, stands above it.
 #![tactic(auto)]
 
-ghost use Rattle.std.specs.Prelude.{◌≡◌, ◌+◌, ◌*◌, ◌<◌, ◌≤◌, ltb, length};
+ghost use Rattle.std.specs.Prelude.{◌≡◌, ◌*◌, ◌≤◌, ◌<◌, length};
 ghost use Rattle.net.specs.Net.{most_posts, most_segments, own_of};
-ghost use Rattle.net.specs.Ready.{Ready, ratios_by, ratio_count_by, segments_by, count_by, net_by};
-ghost use Rattle.net.specs.Refusals.{refusal};
-ghost use Rattle.numbers.specs.Putting.{put, onto};
+ghost use Rattle.net.specs.Ready.{ratios_in, ratio_count_in, segments_in, count_in, net_in};
+ghost use Rattle.net.specs.declared.Form.TheVariants.{Second};
+ghost use Rattle.numbers.specs.Numbers.{written, most_numbers};
+ghost use Rattle.numbers.specs.Putting.{onto};
 ghost use Rattle.writing.specs.Writing.{form_written, numbers_written, head_written, post_written, posts_written};
 ghost use Rattle.writing.specs.Writing.{own_written, segment_written, segments_written, net_written};
-ghost use Rattle.writing.specs.Writing.{HeadFits, PostFits, PostsFit, OwnSmall, SegmentFits, SegmentsFit};
+ghost use Rattle.writing.specs.Putting.{HasRoom, Wrote};
 ghost use Rattle.writing.specs.Answers.{Writes};
-ghost use Rattle.writing.specs.declared.WriteAnswer.TheVariants.{Refused as WriteRefused};
 
-use checks::{check, segment_at, segment_count};
-use net::plain::{lesser, number_of};
-use net::{Checked, Form, Head, Refusal, Segment};
+use checks::{rated, segment_at, segment_count, sound};
+use net::plain::refuse;
+use net::{Form, Head, NetLists, RatedNet, Refusal, Segment, SoundNet};
 use numbers::{number_size, put_at};
 
-// The length of the record that was written, or the refusal.
-#[derive(Clone, Copy)]
-pub enum WriteAnswer {
-    Written(u32),
-    Refused(Refusal),
-}
-
-// A refusal at place 0.
-fn refused(number: u32) -> WriteAnswer
-    ensures { result ≡ WriteRefused (refusal number 0) }
-{
-    WriteAnswer::Refused(Refusal { number, place: 0 })
+// A record in lent room, which ends before the place `at`. Each method puts its bytes there, and leaves all others as
+// they are. How much room is left stays a clause of each, which puts other bytes. Not one struct with lines' `Text`:
+// both are private, and neither crate stands on the other.
+#[derive(Drop)]
+struct Page<'a> {
+    room: &'a mut [u8],
+    at: usize,
 }
 
 // How many bytes "a first number 0" takes, which only the second form has.
 fn form_size(head: Head) -> usize
     ensures { (result ≡ length (form_written head.form)) × (result ≤ 4) }
 {
-    let form = head.form;
-    match form {
+    match head.form {
         Form::First => 0,
         Form::Second => number_size(0),
     }
@@ -66,40 +60,38 @@ fn head_size(head: Head, count: u32) -> usize
 }
 
 // How many bytes a post's own ratio takes: none for the source.
-fn post_size(source: u32, p: &[u32], q: &[u32], post: u32) -> usize
-    requires { (post < length p.now) × (post < length q.now) }
-    ensures { (result ≡ length (post_written source (ratios_by p.entry q.entry) post)) × (result ≤ 8) }
+fn post_size(net: RatedNet<'_>, post: u32) -> usize
+    requires { post < net.lists.head.posts }
+    ensures { (result ≡ length (post_written net.entry.lists.head.source (ratios_in net.entry.lists.own) post))
+        × (result ≤ 8) }
 {
-    if post == source {
+    if post == net.lists.head.source {
         return 0;
     }
     let v = post as usize;
-    number_size(p[v]) + number_size(q[v])
+    number_size(net.lists.own.p[v]) + number_size(net.lists.own.q[v])
 }
 
 // How many bytes the own ratios of the posts take.
-fn posts_size(source: u32, posts: u32, p: &[u32], q: &[u32]) -> usize
-    requires { (posts ≤ most_posts) × (posts ≤ length p.now) × (posts ≤ length q.now) }
-    ensures { (result ≡ length (posts_written source (ratios_by p.entry q.entry) 0 posts)) × (result ≤ 8 * most_posts) }
+fn posts_size(net: RatedNet<'_>) -> usize
+    ensures { (result ≡ length (posts_written net.entry.lists.head.source (ratios_in net.entry.lists.own) 0
+        net.entry.lists.head.posts)) × (result ≤ 8 * most_posts) }
 {
     let mut size = 0;
-    let mut post = 0;
-    while post < posts {
-        size += post_size(source, p, q, post);
-        post += 1;
+    for post in 0..net.lists.head.posts {
+        size += post_size(net, post);
     }
     size
 }
 
 // How many bytes the own ratios of a net take.
-fn own_size(head: Head, p: &[u32], q: &[u32]) -> usize
-    requires { (head.posts ≤ most_posts) × (head.posts ≤ length p.now) × (head.posts ≤ length q.now) }
-    ensures { (result ≡ length (own_written head (own_of head (ratios_by p.entry q.entry)))) × (result ≤ 8 * most_posts) }
+fn own_size(net: RatedNet<'_>) -> usize
+    ensures { (result ≡ length (own_written net.entry.lists.head
+        (own_of net.entry.lists.head (ratios_in net.entry.lists.own)))) × (result ≤ 8 * most_posts) }
 {
-    let form = head.form;
-    match form {
+    match net.lists.head.form {
         Form::First => 0,
-        Form::Second => posts_size(head.source, head.posts, p, q),
+        Form::Second => posts_size(net),
     }
 }
 
@@ -107,198 +99,150 @@ fn own_size(head: Head, p: &[u32], q: &[u32]) -> usize
 fn segment_size(s: Segment) -> usize
     ensures { (result ≡ length (segment_written s)) × (result ≤ 12) }
 {
-    number_size(number_of(s.a)) + number_size(number_of(s.b)) + number_size(s.length)
+    number_size(u32::from(s.a)) + number_size(u32::from(s.b)) + number_size(s.length)
 }
 
-// How many bytes the segments of three slices, which are equally long, take.
-fn segments_size(a: &[u16], b: &[u16], lengths: &[u32]) -> usize
-    requires { (length b.now ≡ length a.now) × (length lengths.now ≡ length a.now)
-        × (length a.now ≤ most_segments) }
-    ensures { (result ≡ length (segments_written (segments_by a.entry b.entry lengths.entry)))
+// How many bytes the segments of a net take.
+fn segments_size(net: RatedNet<'_>) -> usize
+    ensures { (result ≡ length (segments_written (segments_in net.entry.lists.segments)))
         × (result ≤ 12 * most_segments) }
 {
+    let segments = net.lists.segments;
     let mut size = 0;
-    let mut i = 0;
-    while i < a.len() {
-        let s = segment_at(a, b, lengths, i);
-        size += segment_size(s);
-        i += 1;
+    for i in 0..segment_count(segments) {
+        size += segment_size(segment_at(segments, i));
     }
     size
 }
 
-// Writes "a first number 0" of the second form at the front of the room: the next free byte.
-fn put_form(room: &mut [u8], head: Head) -> usize
-    requires { length (form_written head.form) ≤ length room.old }
-    ensures { (result ≡ length (form_written head.form))
-        × (room.new ≡ put 0 (form_written head.form) room.old) }
-{
-    let form = head.form;
-    match form {
-        Form::First => 0,
-        Form::Second => put_at(room, 0, 0),
+impl Page<'_> {
+    // A number.
+    fn put_number(&mut self, n: u32)
+        requires { (n < most_numbers) × HasRoom (written n) self.old }
+        ensures { Wrote (written n) self.old self.new }
+    {
+        self.at = put_at(self.room, self.at, n);
     }
-}
 
-// Writes "post count, source, p, q, segment count" from the byte `at` on: the next free byte.
-fn put_head(room: &mut [u8], at: usize, head: Head, count: u32) -> usize
-    requires { HeadFits head count at (length room.old) }
-    ensures { (result ≡ at + length (numbers_written head count))
-        × (room.new ≡ put at (numbers_written head count) room.old) }
-{
-    let a = put_at(room, at, head.posts);
-    let b = put_at(room, a, head.source);
-    let c = put_at(room, b, head.p);
-    let d = put_at(room, c, head.q);
-    put_at(room, d, count)
-}
-
-// Writes "p and q" of a post from the byte `at` on, and nothing of the source: the next free byte.
-fn put_post(room: &mut [u8], at: usize, source: u32, p: &[u32], q: &[u32], post: u32) -> usize
-    requires { (post < length p.now) × (post < length q.now)
-        × PostFits source (ratios_by p q) post at (length room.old) }
-    ensures { (result ≡ at + length (post_written source (ratios_by p.entry q.entry) post))
-        × (room.new ≡ put at (post_written source (ratios_by p.entry q.entry) post) room.old) }
-{
-    if post == source {
-        return at;
+    // "A first number 0" of the second form.
+    fn put_form(&mut self, form: Form)
+        requires { HasRoom (form_written form) self.old }
+        ensures { Wrote (form_written form) self.old self.new }
+    {
+        match form {
+            Form::First => {}
+            Form::Second => self.put_number(0),
+        }
     }
-    let v = post as usize;
-    let b = put_at(room, at, p[v]);
-    put_at(room, b, q[v])
-}
 
-// Writes "p and q for each post but the source in rising order" from the byte `at` on: the next free byte.
-fn put_posts(room: &mut [u8], at: usize, source: u32, posts: u32, p: &[u32], q: &[u32]) -> usize
-    requires { (posts ≤ length p.now) × (posts ≤ length q.now)
-        × PostsFit source (ratios_by p q) posts at (length room.old) }
-    ensures { (result ≡ at + length (posts_written source (ratios_by p.entry q.entry) 0 posts))
-        × (room.new
-        ≡ put at (posts_written source (ratios_by p.entry q.entry) 0 posts) room.old) }
-{
-    let mut next = at;
-    let mut post = 0;
-    while post < posts {
-        next = put_post(room, next, source, p, q, post);
-        post += 1;
+    // "post count, source, p, q, segment count"
+    fn put_head(&mut self, net: RatedNet<'_>)
+        requires { HasRoom (numbers_written net.lists.head (length net.lists.segments.a.now)) self.old }
+        ensures { Wrote (numbers_written net.entry.lists.head (length net.entry.lists.segments.a.now))
+            self.old self.new }
+    {
+        let NetLists { head, segments, .. } = net.lists;
+        self.put_number(head.posts);
+        self.put_number(head.source);
+        self.put_number(head.p);
+        self.put_number(head.q);
+        self.put_number(segments.a.len() as u32);
     }
-    next
-}
 
-// Writes the own ratios of a net from the byte `at` on: the next free byte.
-fn put_own(room: &mut [u8], at: usize, head: Head, p: &[u32], q: &[u32]) -> usize
-    requires { (head.posts ≤ length p.now) × (head.posts ≤ length q.now)
-        × (at + length (own_written head (own_of head (ratios_by p q))) ≤ length room.old)
-        × OwnSmall head (ratios_by p q) }
-    ensures { (result ≡ at + length (own_written head (own_of head (ratios_by p.entry q.entry))))
-        × (room.new
-        ≡ put at (own_written head (own_of head (ratios_by p.entry q.entry))) room.old) }
-{
-    let form = head.form;
-    match form {
-        Form::First => at,
-        Form::Second => put_posts(room, at, head.source, head.posts, p, q),
+    // "p and q" of a post, and nothing of the source.
+    fn put_post(&mut self, net: RatedNet<'_>, post: u32)
+        requires { (net.lists.head.form ≡ Second) × (post < net.lists.head.posts)
+            × HasRoom (post_written net.lists.head.source (ratios_in net.lists.own) post) self.old }
+        ensures { Wrote (post_written net.entry.lists.head.source (ratios_in net.entry.lists.own) post)
+            self.old self.new }
+    {
+        if post == net.lists.head.source {
+            return;
+        }
+        let v = post as usize;
+        self.put_number(net.lists.own.p[v]);
+        self.put_number(net.lists.own.q[v]);
     }
-}
 
-// Writes a segment, "its two posts in the order given and its length", from the byte `at` on: the next free byte.
-fn put_segment(room: &mut [u8], at: usize, s: Segment) -> usize
-    requires { SegmentFits s at (length room.old) }
-    ensures { (result ≡ at + length (segment_written s)) × (room.new ≡ put at (segment_written s) room.old) }
-{
-    let b = put_at(room, at, number_of(s.a));
-    let c = put_at(room, b, number_of(s.b));
-    put_at(room, c, s.length)
-}
-
-// Writes the segments of three slices, which are equally long, from the byte `at` on.
-fn put_segments(room: &mut [u8], at: usize, a: &[u16], b: &[u16], lengths: &[u32])
-    requires { (length b.now ≡ length a.now) × (length lengths.now ≡ length a.now)
-        × SegmentsFit (segments_by a b lengths) at (length room.old) }
-    ensures { room.new
-        ≡ put at (segments_written (segments_by a.entry b.entry lengths.entry))
-        room.old }
-{
-    let mut next = at;
-    let mut i = 0;
-    while i < a.len() {
-        let s = segment_at(a, b, lengths, i);
-        next = put_segment(room, next, s);
-        i += 1;
+    // "p and q for each post but the source in rising order"
+    fn put_posts(&mut self, net: RatedNet<'_>)
+        requires { (net.lists.head.form ≡ Second)
+            × HasRoom (posts_written net.lists.head.source (ratios_in net.lists.own) 0 net.lists.head.posts) self.old }
+        ensures { Wrote (posts_written net.entry.lists.head.source (ratios_in net.entry.lists.own) 0
+            net.entry.lists.head.posts) self.old self.new }
+    {
+        for post in 0..net.lists.head.posts {
+            self.put_post(net, post);
+        }
     }
-}
 
-// Fewer ratios are lent, as far as both slices go, than there are posts.
-fn too_few(posts: u32, p: &[u32], q: &[u32]) -> bool
-    ensures { result ≡ ltb (ratio_count_by p.entry q.entry) posts }
-{
-    lesser(p.len(), q.len()) < posts as usize
+    // The own ratios of a net: none in the first form.
+    fn put_own(&mut self, net: RatedNet<'_>)
+        requires { HasRoom (own_written net.lists.head (own_of net.lists.head (ratios_in net.lists.own))) self.old }
+        ensures { Wrote (own_written net.entry.lists.head
+            (own_of net.entry.lists.head (ratios_in net.entry.lists.own))) self.old self.new }
+    {
+        match net.lists.head.form {
+            Form::First => {}
+            Form::Second => self.put_posts(net),
+        }
+    }
+
+    // "its two posts in the order given and its length"
+    fn put_segment(&mut self, s: Segment)
+        requires { (s.length < most_numbers) × HasRoom (segment_written s) self.old }
+        ensures { Wrote (segment_written s) self.old self.new }
+    {
+        self.put_number(u32::from(s.a));
+        self.put_number(u32::from(s.b));
+        self.put_number(s.length);
+    }
+
+    // The segments of a net.
+    fn put_segments(&mut self, net: RatedNet<'_>)
+        requires { HasRoom (segments_written (segments_in net.lists.segments)) self.old }
+        ensures { Wrote (segments_written (segments_in net.entry.lists.segments)) self.old self.new }
+    {
+        let segments = net.lists.segments;
+        for i in 0..segment_count(segments) {
+            self.put_segment(segment_at(segments, i));
+        }
+    }
 }
 
 // Writes the record of a net that is not refused by 1 to 8 into a room that is long enough.
-fn put_net(head: Head, p: &[u32], q: &[u32], a: &[u16], b: &[u16], lengths: &[u32], room: &mut [u8])
-    requires { Ready head p.now q.now a.now b.now lengths.now
-        × (head.posts ≤ ratio_count_by p q)
-        × (length (net_written (net_by head p q a b lengths)) ≤ length room.old) }
-    ensures { room.new
-        ≡ onto (net_written (net_by head p.entry q.entry a.entry b.entry lengths.entry))
-        room.old }
+fn put_net(net: RatedNet<'_>, room: &mut [u8])
+    requires { length (net_written (net_in net.lists)) ≤ length room.old }
+    ensures { room.new ≡ onto (net_written (net_in net.entry.lists)) room.old }
 {
-    let first = put_form(room, head);
-    let at = put_head(room, first, head, a.len() as u32);
-    let next = put_own(room, at, head, p, q);
-    put_segments(room, next, a, b, lengths);
+    let mut page = Page { room, at: 0 };
+    page.put_form(net.lists.head.form);
+    page.put_head(net);
+    page.put_own(net);
+    page.put_segments(net);
 }
 
 // Writes the record of a net that is not refused by 1 to 7 into `room`, whose bytes beyond the record are unchanged:
 // its length, or 8 of the ratios that are lent, or 18.
-pub fn write_sound(
-    head: Head,
-    p: &[u32],
-    q: &[u32],
-    a: &[u16],
-    b: &[u16],
-    lengths: &[u32],
-    room: &mut [u8],
-) -> WriteAnswer
-    requires { Ready head p.now q.now a.now b.now lengths.now }
-    ensures writes { Writes (net_by head p.entry q.entry a.entry b.entry lengths.entry)
-        (count_by a.entry b.entry lengths.entry) (ratio_count_by p.entry q.entry)
-        room.old result room.new }
+pub fn write_sound(net: SoundNet<'_>, room: &mut [u8]) -> Result<u32, Refusal>
+    ensures writes { Writes (net_in net.entry.lists) (count_in net.entry.lists.segments)
+        (ratio_count_in net.entry.lists.own) room.old result room.new }
 {
-    if too_few(head.posts, p, q) {
-        return refused(8);
-    }
-    let size = segments_size(a, b, lengths);
-    let whole = head_size(head, a.len() as u32) + own_size(head, p, q) + size;
+    let net = rated(net)?;
+    let whole = head_size(net.lists.head, net.lists.segments.a.len() as u32)
+        + own_size(net)
+        + segments_size(net);
     if room.len() < whole {
-        return refused(18);
+        return refuse(18, 0);
     }
-    put_net(head, p, q, a, b, lengths, room);
-    WriteAnswer::Written(whole as u32)
+    put_net(net, room);
+    Ok(whole as u32)
 }
 
-// Writes the record of the net of slices of any lengths into `room`: its length, or the refusal, 1 to 7, then 8, then
-// 18.
-pub fn write(
-    head: Head,
-    p: &[u32],
-    q: &[u32],
-    a: &[u16],
-    b: &[u16],
-    lengths: &[u32],
-    room: &mut [u8],
-) -> WriteAnswer
-    ensures writes { Writes (net_by head p.entry q.entry a.entry b.entry lengths.entry)
-        (count_by a.entry b.entry lengths.entry) (ratio_count_by p.entry q.entry)
+// Writes the record of a net of lists of any lengths into `room`: its length, or the refusal, 1 to 7, then 8, then 18.
+pub fn write(net: NetLists<'_>, room: &mut [u8]) -> Result<u32, Refusal>
+    ensures writes { Writes (net_in net.entry) (count_in net.entry.segments) (ratio_count_in net.entry.own)
         room.old result room.new }
 {
-    let says = check(head, p, q, a, b, lengths);
-    match says {
-        Checked::Refused(r) => WriteAnswer::Refused(r),
-        Checked::Sound => {
-            let m = segment_count(a, b, lengths);
-            write_sound(head, p, q, &a[..m], &b[..m], &lengths[..m], room)
-        }
-    }
+    write_sound(sound(net)?, room)
 }

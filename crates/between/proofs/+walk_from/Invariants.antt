@@ -10,10 +10,10 @@ decreases-walk_from l = l.left
 
 abbrev pub invariant-loop-c : goal.invariant-loop-c
 invariant-loop-c l = (g : Given)
-    → Looping g (l.left - 1) l.v l.walked l.first l.after l.limits l.lengths l.shortest l.up l.dist l.initial.d
+    → Looping g (l.left - 1) l.v l.on.walked.now l.on.first.now l.on.after.now l.on.limits.now l.on.lengths.now l.on.shortest.now l.on.up.now l.on.dist.now l.initial.d
     l.initial.entries l.initial.laid
-    → Along g (length l.first) (l.left - 1) l.v l.shortest l.up l.dist l.initial.d l.initial.entries l.initial.laid l.c
+    → Along g (length l.on.first.now) (l.left - 1) l.v l.on.shortest.now l.on.up.now l.on.dist.now l.initial.d l.initial.entries l.initial.laid l.c
     l.d l.entries l.laid
 
 abbrev pub decreases-loop-c : goal.decreases-loop-c
-decreases-loop-c l = ahead (length l.lengths) l.walked l.c
+decreases-loop-c l = ahead (length l.on.lengths.now) l.on.walked.now l.c

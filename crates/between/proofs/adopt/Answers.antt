@@ -2,12 +2,10 @@
 use Rattle.between.proofs.Links.{adopt_hit, adopt_miss}
 use Rattle.between.proofs.adopt.Goals as goal
 
-pub returns-then-wide-i : goal.returns-then-wide-i
-returns-then-wide-i c = adopt_hit _ _ _ _ _ _ _ _ _ _ _ _ _ _ _ c.wide.ensures.0
-    c.entry_at.ensures c.wide-2.ensures.0
-    c.if-wide-i.true c.wide-then-wide-i.ensures.0
-    c.entry_at-next.ensures c.wide-then-wide-i-2.ensures.0 c.put_entry.ensures
-    c.wide-then-wide-i-3.ensures.0 c.put_entry-then-wide-i.ensures
+pub returns-then-from-i : goal.returns-then-from-i
+returns-then-from-i c = adopt_hit _ _ _ _ _ _ _ _ _ _ _ _ _ _ _ c.from.ensures c.at.ensures.read c.from-2.ensures
+    c.if-from-i.true c.from-then-from-i.ensures c.at-next.ensures.read c.from-then-from-i-2.ensures c.put.ensures.put
+    c.from-then-from-i-3.ensures c.put-then-from-i.ensures.put
 
-pub returns-else-wide-i : goal.returns-else-wide-i
-returns-else-wide-i c = adopt_miss _ _ _ _ _ _ _ _ _ c.wide.ensures.0 c.entry_at.ensures c.wide-2.ensures.0 c.if-wide-i.false
+pub returns-else-from-i : goal.returns-else-from-i
+returns-else-from-i c = adopt_miss _ _ _ _ _ _ _ _ _ c.from.ensures c.at.ensures.read c.from-2.ensures c.if-from-i.false

@@ -2,12 +2,9 @@
 use Rattle.between.proofs.Trying.{enter_over, enter_under}
 use Rattle.between.proofs.enter_post.Goals as goal
 
-pub lay_path-requires : goal.lay_path-requires
-lay_path-requires c = c.requires
+pub returns-then-at : goal.returns-then-at
+returns-then-at c = λ g en. enter_over en _ _ _ _ c.at.ensures.read c.at-2.ensures.read
+    c.if-at.true _ _ c.requires (c.lay_path.ensures g _ en.direct)
 
-pub returns-then-note_at : goal.returns-then-note_at
-returns-then-note_at c = λ g en. enter_over en _ _ _ _ c.note_at.ensures c.note_at-2.ensures
-    c.if-note_at.true _ _ c.requires (c.lay_path.ensures g _ en.direct)
-
-pub returns : goal.returns
-returns c = λ g en. enter_under en _ _ _ _ c.note_at.ensures c.note_at-2.ensures c.if-note_at.false
+pub returns-else-at : goal.returns-else-at
+returns-else-at c = λ g en. enter_under en _ _ _ _ c.at.ensures.read c.at-2.ensures.read c.if-at.false

@@ -1,12 +1,7 @@
 -- `put_limits` meets its contract: the limits are put at the front of the list, one after another. Assumes nothing.
-use Prim.Native.Nat.{◌-◌}
-use lib.ListN.{length}
 use Rattle.net.proofs.Blend.{Put}
 use Rattle.between.specs.Given.{limits_by}
 use Rattle.between.proofs.put_limits.Given as goal
 
 abbrev pub invariant-loop-v : goal.invariant-loop-v
-invariant-loop-v l = Put (limits_by l.p l.q l.dist) l.initial.limits l.limits l.v
-
-abbrev pub decreases-loop-v : goal.decreases-loop-v
-decreases-loop-v l = length l.dist - l.v
+invariant-loop-v l = Put (limits_by l.ratios.p.now l.ratios.q.now l.dist) l.initial.limits l.limits l.v

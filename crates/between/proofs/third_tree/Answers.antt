@@ -1,13 +1,6 @@
 -- `third_tree` meets its contract: the tables are made, and one call walks over them. Assumes nothing.
 use Rattle.between.proofs.Starting.{tables_of}
-use native.Mathlib.Omega.{arith}
 use Rattle.between.proofs.third_tree.Goals as goal
-
-pub put_parents-requires : goal.put_parents-requires
-put_parents-requires c = let w = c.requires.0 in omega (arith, w.posts_are, w.few_posts)
-
-pub put_limits-requires : goal.put_limits-requires
-put_limits-requires c = let w = c.requires.0 in record { ratios = (w.ratios, w.d_low); dist_in_bounds = omega (arith, w.few_posts) }
 
 pub walk_net-requires : goal.walk_net-requires
 walk_net-requires c = let p = c.requires in

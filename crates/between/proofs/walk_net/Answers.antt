@@ -3,18 +3,9 @@ use mathlib.Core.Path.{refl, sym, ap, ◌∙◌}
 use Prim.Native.Nat.{ℕ}
 use lib.ListN.{replicate, length-take, length-set, length-replicate}
 use Rattle.net.specs.Words.{no_segment}
-use Rattle.between.proofs.Starting.{ends_wider, start_asks, start_ends}
+use Rattle.between.proofs.Starting.{start_asks, start_ends}
 use native.Mathlib.Omega.{arith}
 use Rattle.between.proofs.walk_net.Goals as goal
-
-pub link_children-requires : goal.link_children-requires
-link_children-requires c = let w = c.requires.0.walkable in (ends_wider w.few_posts w.inside, omega arith, refl)
-
-pub offset_bounds-d-source : goal.offset_bounds-d-source
-offset_bounds-d-source c = let w = c.requires.0.walkable in omega (arith, w.few_posts, w.source_in)
-
-pub bounds-d-source : goal.bounds-d-source
-bounds-d-source c = let w = c.requires.0.walkable in omega (arith, w.few_posts, w.source_in)
 
 pub slice_bounds-d-end : goal.slice_bounds-d-end
 slice_bounds-d-end c = simp (length-set, length-replicate) c.requires.0.walkable.few_posts
@@ -27,13 +18,13 @@ walk_from-requires c = let p = c.requires in
     let w = p.0.walkable in
     record {
       given = _;
-      turned = start_asks w _ p.0.tables w.few_posts refl (c.clear.ensures ∙ ap (λ (k : ℕ). replicate k no_segment) p.1) (sym
+      turned = start_asks w _ p.0.tables w.few_posts refl (c.fill.ensures.after (λ _ e. e) ∙ ap (λ (k : ℕ). replicate k no_segment) p.1) (sym
           c.link_children.auto.first) (omega arith) w.few_posts c.link_children.ensures;
     }
 
 pub returns : goal.returns
 returns c = λ p q w t.
-    let ee = c.clear.ensures ∙ ap (λ (k : ℕ). replicate k no_segment)
+    let ee = c.fill.ensures.after (λ _ e. e) ∙ ap (λ (k : ℕ). replicate k no_segment)
     c.requires.1 in
     start_ends w _ t w.few_posts refl ee
     (c.walk_from.ensures _ (start_asks w _ t w.few_posts refl ee (sym c.link_children.auto.first) (omega arith) w.few_posts

@@ -1,33 +1,25 @@
--- `build_sound` meets its contract: four ways out for 8, and what is left. Assumes nothing.
+-- `build_sound` meets its contract: the ways out for 8, and what is left. Assumes nothing.
+use mathlib.Core.Path.{ap}
 use mathlib.Core.Logic.{inl, inr}
-use Rattle.net.proofs.Own.{ratios_count}
-use Rattle.building.proofs.Ways.{leaves_short}
-use native.Mathlib.Omega.{arith}
+use Rattle.net.specs.Refusals.{passed_of}
+use Rattle.net.proofs.Checks.{passed_on}
+use Rattle.building.proofs.Ways.{leaves_short, leaves_unrated}
 use Rattle.building.proofs.build_sound.Goals as goal
+use Rattle.building.proofs.build_sound.Goals.{then-lightest-posts-via-then-lightest-posts, then-lightest-posts-via-else-lightest-posts+then-shortest-posts, then-lightest-posts-via-else-lightest-posts+else-shortest-posts+then-between-posts}
 
 pub returns-then-lightest-posts : goal.returns-then-lightest-posts
 returns-then-lightest-posts c = record {
-  built = leaves_short c.args.head c.args.p.now c.args.q.now c.args.a.now c.args.b.now c.args.lengths.now c.args.lightest.now c.args.shortest.now c.args.between.now c.requires
-      (inl (inl (omega arith))) c.refuse.ensures;
+  built = let n = c.args.net.lists in
+      leaves_short n.head n.own.p.now n.own.q.now n.segments.a.now n.segments.b.now n.segments.lengths.now c.args.lightest.now c.args.shortest.now c.args.between.now c.args.net.sound (inl (elim c.then-lightest-posts.branch [
+        | then-lightest-posts-via-then-lightest-posts w ↦ inl w.if-lightest-posts.true
+        | then-lightest-posts-via-else-lightest-posts+then-shortest-posts w ↦ inr (inl w.if-shortest-posts.true)
+        | then-lightest-posts-via-else-lightest-posts+else-shortest-posts+then-between-posts w ↦ inr (inr w.if-between-posts.true)
+      ])) c.refuse.ensures.refused;
 }
 
-pub returns-then-shortest-posts : goal.returns-then-shortest-posts
-returns-then-shortest-posts c = record {
-  built = leaves_short c.args.head c.args.p.now c.args.q.now c.args.a.now c.args.b.now c.args.lengths.now c.args.lightest.now c.args.shortest.now c.args.between.now c.requires
-      (inl (inr (inl (omega arith)))) c.refuse-then-shortest-posts.ensures;
+pub returns-in_err-rated : goal.returns-in_err-rated
+returns-in_err-rated c = record {
+  built = let n = c.args.net.lists in
+      leaves_unrated n.head n.own.p.now n.own.q.now n.segments.a.now n.segments.b.now n.segments.lengths.now c.args.lightest.now c.args.shortest.now c.args.between.now c.args.net.sound
+      c.rated.ensures.answers (ap passed_of c.in_err-rated.was) (passed_on c.from_residual.ensures.1);
 }
-
-pub returns-then-between-posts : goal.returns-then-between-posts
-returns-then-between-posts c = record {
-  built = leaves_short c.args.head c.args.p.now c.args.q.now c.args.a.now c.args.b.now c.args.lengths.now c.args.lightest.now c.args.shortest.now c.args.between.now c.requires
-      (inl (inr (inr (omega arith)))) c.refuse-then-between-posts.ensures;
-}
-
-pub returns-then-lesser-posts : goal.returns-then-lesser-posts
-returns-then-lesser-posts c = record {
-  built = leaves_short c.args.head c.args.p.now c.args.q.now c.args.a.now c.args.b.now c.args.lengths.now c.args.lightest.now c.args.shortest.now c.args.between.now c.requires
-      (inr (omega (arith, ratios_count c.args.p.now c.args.q.now, c.if-lesser-posts.true, c.lesser.ensures.least, c.index_of-posts.ensures.same))) c.refuse-then-lesser-posts.ensures;
-}
-
-pub build_long-requires : goal.build_long-requires
-build_long-requires c = record { ready = (c.requires, omega (arith, ratios_count c.args.p.now c.args.q.now, c.if-lesser-posts.false, c.lesser.ensures.least, c.index_of-posts.ensures.same)); posts_bound = (omega (arith, c.index_of-posts.ensures.same, c.if-lightest-posts.false), omega (arith, c.index_of-posts.ensures.same, c.if-shortest-posts.false), omega (arith, c.index_of-posts.ensures.same, c.if-between-posts.false)) }

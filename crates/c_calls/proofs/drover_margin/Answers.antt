@@ -1,13 +1,20 @@
--- `drover_margin` meets its contract: the refusal packed, or the margin in the list's first entry. Assumes nothing.
+-- `drover_margin` meets its contract: the answer's number, and the margin in the list's first entry or none. Assumes nothing.
+use mathlib.Core.Path.{sym, ap, ◌∙◌}
+use mathlib.Core.List.{[], ◌∷◌}
+use native.Mathlib.Omega.{arith}
 use Rattle.margins.proofs.Margins.{back}
-use Rattle.c_calls.proofs.Answered.{margin_refused, margin_put}
+use Rattle.c_numbers.specs.Lists.{front}
+use Rattle.c_numbers.proofs.Fronts.{front_none}
+use Rattle.c_calls.proofs.Answered.{measured}
 use Rattle.c_calls.proofs.drover_margin.Goals as goal
+use Rattle.c_calls.proofs.drover_margin.Goals.{in-Ok, in_default}
 
-pub returns-in-Refused : goal.returns-in-Refused
-returns-in-Refused c = record { measured = margin_refused _ _ _ _ c.tree_named-named.ensures.named c.margin-answer.ensures.measured c.in-Refused.is c.pack.ensures.packed }
-
-pub returns-in-Margin : goal.returns-in-Margin
-returns-in-Margin c = record {
-  measured = margin_put _ _ _ _ c.tree_named-named.ensures.named c.margin-answer.ensures.measured c.in-Margin.is
-      (back _ (c.in-Margin.known_told-in-Margin-1-own.given.0.1)) c.put_margin.ensures.put;
+pub returns : goal.returns
+returns c = record {
+  measured = elim c.match-answer.branch [
+    | in-Ok w ↦ measured _ _ _ c.tree_named.ensures.named c.margin-answer.ensures.measured (w.answer-is ∙ sym w.in-Ok.is) c.refused_number.ensures
+        (rw w.answer-is (w.out-is ∙ w.put_front.ensures.put ∙ ap (λ z. front (z ∷ []) c.args.out.now) (back _ (omega arith))))
+    | in_default w ↦ measured _ _ _ c.tree_named.ensures.named c.margin-answer.ensures.measured w.answer-is c.refused_number.ensures
+        (rw (w.answer-is, w.in_default.is) (w.out-is ∙ sym (front_none _)))
+  ];
 }

@@ -1,32 +1,31 @@
 -- `check_head` meets its contract: each way out is a rule of 1 to 4. Assumes nothing.
 use mathlib.Core.Path.{◌∙◌}
+use mathlib.Core.Logic.{inl, inr}
+use native.Mathlib.Omega.{arith}
 use Rattle.net.proofs.Faults.{head_first}
 use Rattle.net.specs.Rules.{one, two, four, nothing}
-use Rattle.net.proofs.Checks.{refused_by, sound_by}
-use Rattle.checks.proofs.Tests.{not_below, is_below, not_at_most, is_at_most, outside, posts_in, house_refused, head_in}
+use Rattle.net.proofs.Checks.{refused_by, sound_by, passed_on}
+use Rattle.checks.proofs.Ways.{house_refused, head_in}
 use Rattle.checks.proofs.check_head.Goals as goal
+use Rattle.checks.proofs.check_head.Goals.{then-head-eq0-via-then-head-eq0, then-head-eq0-via-else-head-eq0+then-head-gt-MOST_POSTS}
 
-pub returns-then-not-within : goal.returns-then-not-within
-returns-then-not-within c = record { checked = c.refuse.ensures ∙ refused_by (head_first _ _ (one (outside _ _ c.within.ensures c.if-not-within.true-raw))) }
+pub returns-then-head-eq0 : goal.returns-then-head-eq0
+returns-then-head-eq0 c = record { checked = c.refuse.ensures.refused ∙ refused_by (head_first _ _ (one (elim c.then-head-eq0.branch [ then-head-eq0-via-then-head-eq0 w ↦ inl w.if-head-eq0.true | then-head-eq0-via-else-head-eq0+then-head-gt-MOST_POSTS w ↦ inr w.if-head-gt-MOST_POSTS.true ]))) }
 
-pub returns-then-not-head : goal.returns-then-not-head
-returns-then-not-head c = record { checked = c.refuse-then-not-head.ensures ∙ refused_by (head_first _ _ (two (posts_in _ c.within.ensures c.if-not-within.false-raw) (not_below _ _ c.if-not-head.true-raw))) }
+pub returns-then-head : goal.returns-then-head
+returns-then-head c = record { checked = c.refuse-then-head.ensures.refused ∙ refused_by (head_first _ _ (two (record { some_posts = omega arith; few_posts = omega arith }) c.if-head.true)) }
 
-pub returns-in-Refused : goal.returns-in-Refused
-returns-in-Refused c = record {
-  checked = house_refused _ (posts_in _ c.within.ensures c.if-not-within.false-raw) (is_below _ _ c.if-not-head.false-raw)
-      c.check_ratio-says.ensures.checked _ c.in-Refused.is;
+pub returns-in_err-check_ratio : goal.returns-in_err-check_ratio
+returns-in_err-check_ratio c = record {
+  checked = passed_on c.from_residual.ensures.1 ∙ house_refused _ (record { some_posts = omega arith; few_posts = omega arith }) (omega arith) c.check_ratio.ensures.checked _ c.in_err-check_ratio.was;
 }
 
-pub returns-then-not-count : goal.returns-then-not-count
-returns-then-not-count c = record {
-  checked = c.refuse-then-not-count.ensures
-      ∙ refused_by (head_first _ _ (four (head_in _ (posts_in _ c.within.ensures c.if-not-within.false-raw) (is_below _ _
-      c.if-not-head.false-raw) c.check_ratio-says.ensures.checked c.in_default.is) (not_at_most _ _ c.if-not-count.true-raw)));
+pub returns-then-count-gt-MOST_SEGMENTS : goal.returns-then-count-gt-MOST_SEGMENTS
+returns-then-count-gt-MOST_SEGMENTS c = record {
+  checked = c.refuse-then-count-gt-MOST_SEGMENTS.ensures.refused ∙ refused_by (head_first _ _ (four (head_in _ (record { some_posts = omega arith; few_posts = omega arith }) (omega arith) c.check_ratio.ensures.checked c.in_ok-check_ratio.was) c.if-count-gt-MOST_SEGMENTS.true));
 }
 
 pub returns : goal.returns
 returns c = record {
-  checked = sound_by (head_first _ _ (nothing (head_in _ (posts_in _ c.within.ensures c.if-not-within.false-raw) (is_below _ _ c.if-not-head.false-raw)
-      c.check_ratio-says.ensures.checked c.in_default.is) (is_at_most _ _ c.if-not-count.false-raw)));
+  checked = sound_by (head_first _ _ (nothing (head_in _ (record { some_posts = omega arith; few_posts = omega arith }) (omega arith) c.check_ratio.ensures.checked c.in_ok-check_ratio.was) (omega arith)));
 }

@@ -2,11 +2,5 @@
 use Rattle.checks.proofs.Ways.{own_unread}
 use Rattle.checks.proofs.check_own.Goals as goal
 
-pub check_posts-requires : goal.check_posts-requires
-check_posts-requires c = c.in-Second.is
-
 pub returns-in-First : goal.returns-in-First
 returns-in-First c = record { checked = own_unread _ _ c.in-First.is }
-
-pub returns-in-Second : goal.returns-in-Second
-returns-in-Second c = record { checked = c.check_posts.ensures }

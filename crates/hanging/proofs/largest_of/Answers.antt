@@ -1,21 +1,16 @@
--- `hanging::largest_of` meets its contract: at the head of the loop the largest of the numbers passed (`Largest`).
-use mathlib.Core.Path.{◌≡◌}
-use lib.ListN.{length}
-use Rattle.hanging.proofs.Measures.{largest_none, largest_more, largest_kept}
-use native.Mathlib.Omega.{arith}
+-- `hanging::largest_of` meets its contract: the library's largest of the list (`largest_is`).
+use mathlib.Core.Path.{ap, ◌∙◌}
+use Rattle.std.specs.Option.{unwrap_or}
+use Rattle.std.specs.declared.option.Option.{Option}
+use Prim.Native.Nat.{ℕ}
+use Rattle.std.proofs.lemmas.Iterator.Adapters.{option_map_id}
+use Rattle.std.proofs.lemmas.Iterator.{YieldsList-from_slice}
+use Rattle.std.proofs.lemmas.Iterator.Consumers.{YieldsList-from_copied, YieldsList-at, max_from_yields_List}
+use Rattle.hanging.proofs.Measures.{largest_is}
 use Rattle.hanging.proofs.largest_of.Goals as goal
-use Rattle.hanging.proofs.largest_of.Goals.{then-list-i, else-list-i}
-
-pub loop-i-init : goal.loop-i-init
-loop-i-init c = (omega arith, largest_none)
-
-pub loop-i-preserved : goal.loop-i-preserved
-loop-i-preserved c =
-    let k = c.loop-i.invariant.1 in
-    elim c.if-list-i.branch [
-      | then-list-i w ↦ (omega arith, rw w.most-is (largest_more k w.if-list-i.true))
-      | else-list-i w ↦ (omega arith, rw w.most-is (largest_kept k w.if-list-i.false))
-    ]
 
 pub returns : goal.returns
-returns c = let e : c.loop-i.i ≡ length c.args.list.now = omega arith in let r = c.loop-i.invariant.1 in (rw e at r).is
+returns c =
+    let h = max_from_yields_List c.copied.result c.max.result c.max.ensures.ran (YieldsList-from_copied (YieldsList-at c.copied.ensures.source (YieldsList-from_slice c.args.list.now cc))) in
+    let k = rw option_map_id at h in
+    c.unwrap_or.ensures ∙ ap (λ (r : Option ℕ). unwrap_or r 0) k ∙ largest_is c.args.list.now

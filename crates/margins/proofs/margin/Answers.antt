@@ -1,27 +1,13 @@
--- `margin` meets its contract: a way out for 1 to 7, and what is left of the three slices cut to their common length. Assumes nothing.
-use mathlib.Core.Path.{sym}
-use Rattle.net.proofs.Ready.{cut_level, ready_cut}
-use Rattle.margins.proofs.Margins.{says_faulty, says_cut}
+-- `margin` meets its contract: a way out for 1 to 7, and what is left of the net cut to what its lists stand for. Assumes nothing.
+use mathlib.Core.Path.{ap, ◌∙◌}
+use Rattle.net.specs.Refusals.{passed_of}
+use Rattle.net.proofs.Checks.{passed_on}
+use Rattle.margins.proofs.Margins.{says_faulty}
 use Rattle.margins.proofs.margin.Goals as goal
 
-pub returns-in-Refused : goal.returns-in-Refused
-returns-in-Refused c = record { answered = says_faulty c.args.head c.args.p.now c.args.q.now c.args.a.now c.args.b.now c.args.lengths.now c.args.tree c.args.post c.check-says.ensures.checked c.in-Refused.is }
-
-pub slice_bounds-margin_sound-end : goal.slice_bounds-margin_sound-end
-slice_bounds-margin_sound-end c =
-    sym (cut_level c.args.a.now c.args.b.now c.args.lengths.now c.segment_count-m.ensures.counted).0
-
-pub slice_bounds-margin_sound-end-2 : goal.slice_bounds-margin_sound-end-2
-slice_bounds-margin_sound-end-2 c =
-    sym (cut_level c.args.a.now c.args.b.now c.args.lengths.now c.segment_count-m.ensures.counted).1
-
-pub slice_bounds-margin_sound-end-3 : goal.slice_bounds-margin_sound-end-3
-slice_bounds-margin_sound-end-3 c =
-    sym (cut_level c.args.a.now c.args.b.now c.args.lengths.now c.segment_count-m.ensures.counted).2
-
-pub margin_sound-requires : goal.margin_sound-requires
-margin_sound-requires c =
-    ready_cut c.args.head c.args.p.now c.args.q.now c.args.a.now c.args.b.now c.args.lengths.now c.segment_count-m.ensures.counted c.check-says.ensures.checked c.in_default.is
-
-pub returns : goal.returns
-returns c = record { answered = says_cut c.args.head c.args.p.now c.args.q.now c.args.a.now c.args.b.now c.args.lengths.now _ c.args.tree c.args.post c.segment_count-m.ensures.counted c.margin_sound.ensures.answered }
+pub returns-in_err-sound : goal.returns-in_err-sound
+returns-in_err-sound c = record {
+  answered = let n = c.args.net in
+      passed_on c.from_residual.ensures.1
+      ∙ says_faulty n.head n.own.p.now n.own.q.now n.segments.a.now n.segments.b.now n.segments.lengths.now c.args.tree c.args.post c.sound.ensures.answers (ap passed_of c.in_err-sound.was);
+}

@@ -6,5 +6,4 @@ use Rattle.margins.proofs.margin_by.Goals as goal
 pub returns : goal.returns
 returns c =
     back c.minus.result c.minus.type_inv ∙ margin_at _ _ _ _ c.minus.ensures c.product-limit.ensures.0 c.product-taken.ensures.0
-    c.wide.ensures.same.0 c.wide-2.ensures.same.0
-    c.wide-3.ensures.same.0 c.wide-4.ensures.same.0
+    c.from.ensures c.from-2.ensures c.from-3.ensures c.from-4.ensures

@@ -1,29 +1,16 @@
 -- `margin_sound` meets its contract: a way out for 8, and one call over lists of its own. Assumes nothing.
-use lib.ListN.{length-take}
-use Rattle.net.proofs.Own.{ratios_count}
-use Rattle.net.proofs.Ready.{ready_posts}
+use mathlib.Core.Path.{ap, ◌∙◌}
+use Rattle.std.specs.Prelude.{Err}
+use Rattle.net.specs.Ready.{ratio_count_in}
+use Rattle.net.specs.Refusals.{passed_of}
+use Rattle.net.proofs.Checks.{passed_on}
+use Rattle.checks.proofs.Ways.{unrated}
 use Rattle.margins.proofs.Margins.{says_few}
-use native.Mathlib.Omega.{arith}
 use Rattle.margins.proofs.margin_sound.Goals as goal
 
-pub returns-then-lesser-posts : goal.returns-then-lesser-posts
-returns-then-lesser-posts c = record {
-  answered = says_few c.args.head c.args.p.now c.args.q.now c.args.a.now c.args.b.now c.args.lengths.now c.args.tree c.args.post c.requires
-      (omega (arith, ratios_count c.args.p.now c.args.q.now, c.if-lesser-posts.true, c.lesser.ensures.least, c.index_of-posts.ensures.same)) c.refuse_margin.ensures;
+pub returns-in_err-rated : goal.returns-in_err-rated
+returns-in_err-rated c = record {
+  answered = let n = c.args.net.lists in
+      let z = unrated n.head.posts (ratio_count_in n.own) c.rated.ensures.answers (ap passed_of c.in_err-rated.was) in
+      says_few n.head n.own.p.now n.own.q.now n.segments.a.now n.segments.b.now n.segments.lengths.now c.args.tree c.args.post c.args.net.sound z.0 (passed_on c.from_residual.ensures.1 ∙ ap Err z.1);
 }
-
-pub slice_bounds-margin_in-end : goal.slice_bounds-margin_in-end
-slice_bounds-margin_in-end c = simp length-take (omega (arith, ready_posts c.requires))
-
-pub slice_bounds-margin_in-end-2 : goal.slice_bounds-margin_in-end-2
-slice_bounds-margin_in-end-2 c = simp length-take (omega (arith, ready_posts c.requires))
-
-pub slice_bounds-margin_in-end-3 : goal.slice_bounds-margin_in-end-3
-slice_bounds-margin_in-end-3 c = simp length-take (omega (arith, ready_posts c.requires))
-
-pub slice_bounds-margin_in-end-4 : goal.slice_bounds-margin_in-end-4
-slice_bounds-margin_in-end-4 c = simp length-take (omega (arith, ready_posts c.requires))
-
-pub margin_in-requires : goal.margin_in-requires
-margin_in-requires c = let k = ready_posts c.requires in
-    record { ready = (c.requires, omega (arith, ratios_count c.args.p.now c.args.q.now, c.if-lesser-posts.false, c.lesser.ensures.least, c.index_of-posts.ensures.same)); dist_value = (simp length-take (omega arith), simp length-take (omega arith), simp length-take (omega arith), simp length-take (omega arith)) }

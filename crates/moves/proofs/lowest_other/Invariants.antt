@@ -1,11 +1,7 @@
--- `lowest_other` meets its contract: no post that the loop passed has another ratio (`NoneBelow`). Assumes nothing.
-use Prim.Native.Nat.{◌-◌, ◌≤◌}
-use Rattle.net.specs.Net.{ratios_of}
-use Rattle.moves.proofs.Tests.{NoneBelow}
+-- `lowest_other` meets its contract: no post that the loop passed has another ratio (`NoneOther`). Assumes nothing.
+use Rattle.net.specs.Ready.{ratios_in}
+use Rattle.moves.specs.Moves.{NoneOther}
 use Rattle.moves.proofs.lowest_other.Given as goal
 
 abbrev pub invariant-loop-post : goal.invariant-loop-post
-invariant-loop-post l = (l.post ≤ l.count) × NoneBelow l.head (ratios_of l.p l.q) l.post
-
-abbrev pub decreases-loop-post : goal.decreases-loop-post
-decreases-loop-post l = l.count - l.post
+invariant-loop-post l = NoneOther l.head (ratios_in l.own) l.post

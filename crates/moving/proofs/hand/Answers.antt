@@ -2,9 +2,8 @@
 use Rattle.moving.proofs.Given.{moved_hands, refused_hands}
 use Rattle.moving.proofs.hand.Goals as goal
 
-pub returns-in-Written : goal.returns-in-Written
-returns-in-Written c = moved_hands _ _ _ c.requires c.moved-answer.ensures c.in-Written.is
+pub returns-in-Ok : goal.returns-in-Ok
+returns-in-Ok c = moved_hands _ _ _ c.requires c.in-Ok.ensures.moved
 
-pub returns-in-Refused : goal.returns-in-Refused
-returns-in-Refused c =
-    refused_hands _ _ _ c.requires c.moved-answer.ensures c.in-Refused.is c.put_refused.ensures.put
+pub returns-in-Err : goal.returns-in-Err
+returns-in-Err c = refused_hands _ _ _ c.requires c.in-Err.ensures.moved c.put_refused.ensures.put

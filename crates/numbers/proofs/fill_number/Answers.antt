@@ -1,7 +1,6 @@
 -- `fill_number` meets its contract. The loop's invariant says which groups stand in the room; each turn is a law of Loops. Assumes nothing.
-use mathlib.Core.Path.{◌∙◌}
+use mathlib.Core.Path.{refl}
 use native.Mathlib.Omega.{arith}
-use lib.ListN.{length-set}
 use Rattle.numbers.proofs.Loops.{begin_filling, has_room, fill_more, fill_size, fill_last}
 use Rattle.numbers.proofs.fill_number.Goals as goal
 
@@ -11,20 +10,11 @@ loop-rest-init c = begin_filling _ _ c.requires.0 c.requires.1
 pub bounds-room-k : goal.bounds-room-k
 bounds-room-k c = has_room c.loop-rest.invariant
 
-pub overflow_add-k : goal.overflow_add-k
-overflow_add-k c = omega (arith, has_room c.loop-rest.invariant)
-
 pub loop-rest-preserved : goal.loop-rest-preserved
-loop-rest-preserved c = fill_more c.loop-rest.invariant (omega arith) _ c.more.ensures
+loop-rest-preserved c = fill_more c.loop-rest.invariant (omega arith) _ refl
 
 pub bounds-room-k-2 : goal.bounds-room-k-2
 bounds-room-k-2 c = has_room c.loop-rest.invariant
-
-pub overflow_add-result : goal.overflow_add-result
-overflow_add-result c = omega (arith, has_room c.loop-rest.invariant)
-
-pub shape_of-room : goal.shape_of-room
-shape_of-room c = (simp length-set) ∙ c.loop-rest.invariant.same
 
 pub returns : goal.returns
 returns c = (fill_size c.loop-rest.invariant (omega arith), fill_last c.loop-rest.invariant (omega arith))

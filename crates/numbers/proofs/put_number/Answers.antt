@@ -4,7 +4,7 @@ use mathlib.Core.Path.{sym, ap}
 use mathlib.Core.List.{List}
 use Prim.Native.Nat.{ℕ}
 use denote.Ref.{at_last}
-use Rattle.numbers.proofs.Parts.{part_too_big, part_too_long, part_written, part_size, part_long, all_written, all_part}
+use Rattle.numbers.proofs.Parts.{part_too_big, part_too_long, part_written, part_long, all_written, all_part}
 use Rattle.numbers.proofs.put_number.Goals as goal
 
 pub returns-then-n-gt-MOST_NUMBER : goal.returns-then-n-gt-MOST_NUMBER
@@ -21,12 +21,6 @@ returns-then-room-size-2 c = record {
       let w = all_written z.n z.room.now _ (omega arith) (omega (arith, s)) e (omega (arith, s)) in
       (all_part z.n z.room.now _ (omega arith) (omega (arith, s)) e (omega (arith, s)), λ f. ap (λ (x : List ℕ). at_last z.room x) w);
 }
-
-pub slice_bounds-result-end-2 : goal.slice_bounds-result-end-2
-slice_bounds-result-end-2 c =
-    let z = c.args in
-    let s = c.number_size-size.ensures.sized.0 in
-    part_size z.n z.room.now _ (omega arith) (omega (arith, s)) c.fill_number.ensures.1 s
 
 pub returns : goal.returns
 returns c = record {

@@ -1,17 +1,9 @@
--- `plan` meets its contract: reads the record and, where it is good, plans the net in the five lists. Assumes nothing.
-use Rattle.on_records.proofs.Given.{read_refused, read_given, plans_refused, plans_read}
+-- `plan` meets its contract: what building leaves of the net that was read. Assumes nothing.
+use Rattle.on_records.proofs.Given.{read_front, plans_front, plans_read}
 use Rattle.on_records.proofs.plan.Goals as goal
 
-pub plan_front-requires : goal.plan_front-requires
-plan_front-requires c =
-    let g = read_given _ c.read_record-answer.ensures c.read_record-answer.auto.p c.read_record-answer.auto.q c.read_record-answer.auto.a c.read_record-answer.auto.b c.read_record-answer.auto.lengths c.in-Read.is in
-    g.front
-
-pub returns-in-Refused : goal.returns-in-Refused
-returns-in-Refused c = record { planned = plans_refused _ _ _ _ _ (read_refused _ c.read_record-answer.ensures c.in-Refused.is) }
-
-pub returns-in-Read : goal.returns-in-Read
-returns-in-Read c = record {
-  planned = let g = read_given _ c.read_record-answer.ensures c.read_record-answer.auto.p c.read_record-answer.auto.q c.read_record-answer.auto.a c.read_record-answer.auto.b c.read_record-answer.auto.lengths c.in-Read.is in
-      plans_read _ _ _ _ g c.plan_front.ensures;
+pub returns : goal.returns
+returns c = record {
+  planned = plans_read _ _ _ _ (read_front _ c.read.ensures.read c.in_ok-counted.was c.in_ok-counted.ensures.front)
+      (plans_front _ _ _ _ _ c.net-net.ensures.net c.net-net.ensures.segments c.net-net.ensures.ratios c.build_sound.ensures.built c.in_ok-built.was);
 }

@@ -1,33 +1,92 @@
--- `head_at` meets its contract: the reader is carried through the head's five numbers; what they come to is left to `head_of`. Assumes nothing.
-use mathlib.Core.Path.{ap, ◌∙◌}
-use Rattle.reading.specs.Answers.{head_read_of}
-use Rattle.reading.proofs.Carried.{head_near, heading_carried}
+-- `head_at` meets its contract: five numbers, or the first refusal among them. Assumes nothing.
+use mathlib.Core.Path.{refl}
+use native.Mathlib.Omega.{arith}
+use Rattle.net.proofs.Checks.{passed_on}
+use Rattle.numbers.specs.Numbers.{number}
+use Rattle.numbers.specs.declared.reader.Reader.{Reader}
+use Rattle.numbers.proofs.Groups.{number_next}
+use Rattle.reading.specs.Reading.{Heading}
+use Rattle.reading.specs.Answers.{counted}
+use Rattle.reading.proofs.Carried.{stops, steps, hands_on}
+use Rattle.reading.proofs.Steps.{triple_first, triple_second, triple_third, triple_all, headed_stops, headed_fourth, headed_fifth, headed_all}
 use Rattle.reading.proofs.head_at.Goals as goal
 
-pub head_of-requires : goal.head_of-requires
-head_of-requires c =
-    let a₁ = c.number-posts.ensures.read in
-    let m₁ = rw (c.behind.ensures.placed, a₁) at c.moved-at_source.ensures.moved in
-    let a₂ = rw m₁ at c.number-source.ensures.read in
-    let m₂ = rw (c.behind-2.ensures.placed, a₂, m₁) at c.moved-at_p.ensures.moved in
-    let a₃ = rw m₂ at c.number-p.ensures.read in
-    let m₃ = rw (c.behind-3.ensures.placed, a₃, m₂) at c.moved-at_q.ensures.moved in
-    let a₄ = rw m₃ at c.number-q.ensures.read in
-    let m₄ = rw (c.behind-4.ensures.placed, a₄, m₃) at c.moved-at_count.ensures.moved in
-    let a₅ = rw m₄ at c.number-count.ensures.read in
-    let k = head_near c.args.r.bytes.now c.args.r.at c.requires in
-    (rw a₁ k.0, (rw a₂ k.1.0, (rw a₃ k.1.1.0, (rw a₄ k.1.1.1.0, rw a₅ k.1.1.1.1))))
+pub returns-in_err-posts : goal.returns-in_err-posts
+returns-in_err-posts c =
+    let r = c.args.r in
+    let z = stops number r r refl _ c.next.ensures c.in_err-posts.was in
+    rw (headed_stops _ _ _ (triple_first _ _ z)) (passed_on c.from_residual.ensures.1)
+
+pub next-requires-2 : goal.next-requires-2
+next-requires-2 c =
+    let r = c.args.r in
+    let a1 = steps r r refl number c.next.ensures c.in_ok-posts.was in
+    omega (arith, c.requires, number_next _ _ _ _ a1.0)
+
+pub returns-in_err-source : goal.returns-in_err-source
+returns-in_err-source c =
+    let r = c.args.r in
+    let a1 = steps r r refl number c.next.ensures c.in_ok-posts.was in
+    let z = stops number r c.in_ok-posts.r a1.1 _ c.next-2.ensures c.in_err-source.was in
+    rw (headed_stops _ _ _ (triple_second _ _ a1.0 z)) (passed_on c.from_residual-in_err-source.ensures.1)
+
+pub next-requires-3 : goal.next-requires-3
+next-requires-3 c =
+    let r = c.args.r in
+    let a1 = steps r r refl number c.next.ensures c.in_ok-posts.was in
+    let a2 = steps r c.in_ok-posts.r a1.1 number c.next-2.ensures c.in_ok-source.was in
+    omega (arith, c.requires, number_next _ _ _ _ a1.0, number_next _ _ _ _ a2.0)
+
+pub returns-in_err-p : goal.returns-in_err-p
+returns-in_err-p c =
+    let r = c.args.r in
+    let a1 = steps r r refl number c.next.ensures c.in_ok-posts.was in
+    let a2 = steps r c.in_ok-posts.r a1.1 number c.next-2.ensures c.in_ok-source.was in
+    let z = stops number r c.in_ok-source.r a2.1 _ c.next-3.ensures c.in_err-p.was in
+    rw (headed_stops _ _ _ (triple_third _ _ a1.0 a2.0 z)) (passed_on c.from_residual-in_err-p.ensures.1)
+
+pub next-requires-4 : goal.next-requires-4
+next-requires-4 c =
+    let r = c.args.r in
+    let a1 = steps r r refl number c.next.ensures c.in_ok-posts.was in
+    let a2 = steps r c.in_ok-posts.r a1.1 number c.next-2.ensures c.in_ok-source.was in
+    let a3 = steps r c.in_ok-source.r a2.1 number c.next-3.ensures c.in_ok-p.was in
+    omega (arith, c.requires, number_next _ _ _ _ a1.0, number_next _ _ _ _ a2.0, number_next _ _ _ _ a3.0)
+
+pub returns-in_err-q : goal.returns-in_err-q
+returns-in_err-q c =
+    let r = c.args.r in
+    let a1 = steps r r refl number c.next.ensures c.in_ok-posts.was in
+    let a2 = steps r c.in_ok-posts.r a1.1 number c.next-2.ensures c.in_ok-source.was in
+    let a3 = steps r c.in_ok-source.r a2.1 number c.next-3.ensures c.in_ok-p.was in
+    let z = stops number r c.in_ok-p.r a3.1 _ c.next-4.ensures c.in_err-q.was in
+    rw (headed_fourth _ _ _ (triple_all _ _ a1.0 a2.0 a3.0) z) (passed_on c.from_residual-in_err-q.ensures.1)
+
+pub next-requires-5 : goal.next-requires-5
+next-requires-5 c =
+    let r = c.args.r in
+    let a1 = steps r r refl number c.next.ensures c.in_ok-posts.was in
+    let a2 = steps r c.in_ok-posts.r a1.1 number c.next-2.ensures c.in_ok-source.was in
+    let a3 = steps r c.in_ok-source.r a2.1 number c.next-3.ensures c.in_ok-p.was in
+    let a4 = steps r c.in_ok-p.r a3.1 number c.next-4.ensures c.in_ok-q.was in
+    omega (arith, c.requires, number_next _ _ _ _ a1.0, number_next _ _ _ _ a2.0, number_next _ _ _ _ a3.0, number_next _ _ _ _ a4.0)
+
+pub returns-in_err-count : goal.returns-in_err-count
+returns-in_err-count c =
+    let r = c.args.r in
+    let a1 = steps r r refl number c.next.ensures c.in_ok-posts.was in
+    let a2 = steps r c.in_ok-posts.r a1.1 number c.next-2.ensures c.in_ok-source.was in
+    let a3 = steps r c.in_ok-source.r a2.1 number c.next-3.ensures c.in_ok-p.was in
+    let a4 = steps r c.in_ok-p.r a3.1 number c.next-4.ensures c.in_ok-q.was in
+    let z = stops number r c.in_ok-q.r a4.1 _ c.next-5.ensures c.in_err-count.was in
+    rw (headed_fifth _ _ _ (triple_all _ _ a1.0 a2.0 a3.0) a4.0 z) (passed_on c.from_residual-in_err-count.ensures.1)
 
 pub returns : goal.returns
 returns c =
-    let a₁ = c.number-posts.ensures.read in
-    let m₁ = rw (c.behind.ensures.placed, a₁) at c.moved-at_source.ensures.moved in
-    let a₂ = rw m₁ at c.number-source.ensures.read in
-    let m₂ = rw (c.behind-2.ensures.placed, a₂, m₁) at c.moved-at_p.ensures.moved in
-    let a₃ = rw m₂ at c.number-p.ensures.read in
-    let m₃ = rw (c.behind-3.ensures.placed, a₃, m₂) at c.moved-at_q.ensures.moved in
-    let a₄ = rw m₃ at c.number-q.ensures.read in
-    let m₄ = rw (c.behind-4.ensures.placed, a₄, m₃) at c.moved-at_count.ensures.moved in
-    let a₅ = rw m₄ at c.number-count.ensures.read in
-    let e = rw (a₁, a₂, a₃, a₄, a₅) at c.head_of.ensures in
-    e ∙ ap head_read_of (heading_carried c.args.r.bytes.now c.args.form c.args.r.at)
+    let r = c.args.r in
+    let a1 = steps r r refl number c.next.ensures c.in_ok-posts.was in
+    let a2 = steps r c.in_ok-posts.r a1.1 number c.next-2.ensures c.in_ok-source.was in
+    let a3 = steps r c.in_ok-source.r a2.1 number c.next-3.ensures c.in_ok-p.was in
+    let a4 = steps r c.in_ok-p.r a3.1 number c.next-4.ensures c.in_ok-q.was in
+    let a5 = steps r c.in_ok-q.r a4.1 number c.next-5.ensures c.in_ok-count.was in
+    hands_on (λ (h : Heading) (t : Reader). (counted h, t)) r (headed_all _ _ _ (triple_all _ _ a1.0 a2.0 a3.0) a4.0 a5.0) a5.1

@@ -1,15 +1,6 @@
--- `own_in` meets its contract. The loop's invariant says how far the posts are read, and that the reader stays with its record. Assumes nothing.
-use Prim.Native.Nat.{◌-◌}
-use mathlib.Core.Path.{◌≡◌}
-use Rattle.net.specs.Net.{most_posts}
+-- `own_in` meets its contract. The loop's invariant says how far the posts are read. Assumes nothing.
 use Rattle.reading.proofs.Owned.{Turn}
 use Rattle.reading.proofs.own_in.Given as goal
 
-abbrev pub invariant-loop-says : goal.invariant-loop-says
-invariant-loop-says l = record {
-  same : l.r.bytes ≡ l.fn.start.bytes;
-  turn : Turn l.fn.start.bytes.now l.fn.before l.source l.count l.fn.start.at l.says l.r.at l.post l.p l.q;
-}
-
-abbrev pub decreases-loop-says : goal.decreases-loop-says
-decreases-loop-says l = most_posts - l.post
+abbrev pub invariant-loop-post : goal.invariant-loop-post
+invariant-loop-post l = Turn l.fn.start l.source l.r l.post l.p l.q

@@ -8,7 +8,8 @@ use Rattle.shortest.proofs.relax.Given as goal
 
 abbrev pub invariant-loop-c : goal.invariant-loop-c
 invariant-loop-c l =
-    Walking l.a l.b l.weights l.present l.next l.u l.du l.c l.initial.dist l.dist × (length l.ladder ≡ length l.initial.ladder) × OpenPosts l.posts (note l.dist) (flag l.settled) (note l.ladder)
+    Walking l.segments.a.now l.segments.b.now l.segments.lengths.now l.present l.net.next.now l.u l.du l.c l.initial.dist l.dist
+    × (length l.ladder ≡ length l.initial.ladder) × OpenPosts l.net.posts (note l.dist) (flag l.settled) (note l.ladder)
 
 abbrev pub decreases-loop-c : goal.decreases-loop-c
 decreases-loop-c l = l.c

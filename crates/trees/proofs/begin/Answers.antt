@@ -1,7 +1,8 @@
 -- `begin` meets its contract: every entry is filled, and two stores are made (`begun`). Assumes nothing.
-use native.Mathlib.Omega.{arith}
 use Rattle.trees.proofs.Along.{begun}
 use Rattle.trees.proofs.begin.Goals as goal
 
-pub returns : goal.returns
-returns c = begun c.args.reached.now c.args.queue.now c.requires.source_lt_posts.0 c.requires.source_lt_posts.1 (omega arith) c.requires.source_lt_posts.3 c.requires.source_lt_posts.4 c.requires.by_index c.fill.ensures.filled
+pub returns-clause-begun : goal.returns-clause-begun
+returns-clause-begun c = let r = c.requires.source_in in
+    let w = c.args.walk.now in
+    begun w.flags.now w.queue.now r.0 r.1 (c.fill.ensures.after (λ _ e. e)) r.2 r.3 c.requires.none_reached

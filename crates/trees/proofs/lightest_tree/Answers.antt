@@ -19,7 +19,4 @@ slice_bounds-lightest_by-end-2 c = simp length-take (omega (arith, ready_few c.r
 
 pub lightest_by-requires : goal.lightest_by-requires
 lightest_by-requires c = let few = ready_few c.requires.plain in
-    record { plain = c.requires.plain; index_of = c.requires.index_of; all_there = (all_there _ few, simp length-take (omega arith), c.requires.tree_value) }
-
-pub returns : goal.returns
-returns c = c.lightest_by.ensures
+    record { plain = c.requires.plain; posts_are = c.requires.posts_are; all_there = (all_there _ few, simp length-take (omega arith), c.requires.tree_value) }

@@ -1,11 +1,7 @@
--- `put_numbers` meets its contract: the numbers are put at the front of the list, one after another. Assumes nothing.
-use Prim.Native.Nat.{◌-◌}
-use Rattle.net.proofs.Blend.{Put}
+-- `put_numbers` meets its contract: the list is overwritten from the front by the posts' numbers. Assumes nothing.
+use Rattle.net.proofs.Blend.{Over}
 use Rattle.trees.specs.Ratios.{numbers_for}
 use Rattle.trees.proofs.put_numbers.Given as goal
 
 abbrev pub invariant-loop-v : goal.invariant-loop-v
-invariant-loop-v l = Put (numbers_for l.head l.house l.own) l.initial.list l.list l.v
-
-abbrev pub decreases-loop-v : goal.decreases-loop-v
-decreases-loop-v l = l.head.posts - l.v
+invariant-loop-v l = Over l.initial.list (numbers_for l.head l.house l.own) l.list l.v

@@ -4,4 +4,4 @@ use Rattle.writing.proofs.Puts.{segment_size}
 use Rattle.writing.proofs.segment_size.Goals as goal
 
 pub returns : goal.returns
-returns c = (segment_size _ c.number_of.ensures.same.0 c.number_of-2.ensures.same.0 c.number_size.ensures.sized.0 c.number_size-2.ensures.sized.0 c.number_size-3.ensures.sized.0, omega arith)
+returns c = (segment_size _ c.from.ensures c.from-2.ensures c.number_size.ensures.sized.0 c.number_size-2.ensures.sized.0 c.number_size-3.ensures.sized.0, omega arith)

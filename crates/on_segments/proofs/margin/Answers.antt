@@ -1,0 +1,9 @@
+-- `margin` meets its contract: a refusal of 1 to 7. Assumes nothing.
+use mathlib.Core.Path.{◌∙◌}
+use Rattle.net.specs.Ready.{ratio_count_in}
+use Rattle.net.proofs.Checks.{passed_on}
+use Rattle.on_segments.proofs.Taking.{margin_refused}
+use Rattle.on_segments.proofs.margin.Goals as goal
+
+pub returns-in_err-take : goal.returns-in_err-take
+returns-in_err-take c = record { answers = passed_on c.from_residual.ensures.1 ∙ margin_refused c.args.head c.args.own.p.now c.args.own.q.now c.args.segments.now c.take.ensures.taken.answers c.in_err-take.was (ratio_count_in c.args.own) c.args.tree c.args.post }
