@@ -23,7 +23,8 @@ const NONE: u16 = net::NO_SEGMENT;
 
 // All that the walk looks at and leaves as it is: the tree walked with its children linked, the limits, the segments'
 // lengths, the shortest tree with its parents, and the least lengths. Lists side by side, an entry for each post or
-// each segment: the trees and the least lengths are lent so.
+// each segment: the trees and the least lengths are lent so. Lent on whole: the walk and a laid path go as deep as there
+// are posts, and a copy at each step would have to lie on the stack.
 #[derive(Clone, Copy)]
 struct Ground<'a> {
     walked: &'a [u16],
@@ -73,11 +74,11 @@ fn try_from(u: usize, i: u16, v: usize, long: u64, d: &mut [u64], entries: &mut 
 
 // Lays the direct path of v: the recursion goes up the shortest tree, whose parents are `up`, and falls in v's depth
 // there.
-fn lay_path(v: usize, on: Ground<'_>, d: &mut [u64], entries: &mut [u16])
-    requires { Layable on.shortest.now on.up.now on.dist.now d.old }
-    ensures { (g : Given) (k : ℕ) → Direct g on.entry.lengths.now on.entry.shortest.now on.entry.up.now
-        on.entry.dist.now → (Late on.entry.dist.now d.old v
-        → depth on.entry.shortest.now on.entry.up.now (length on.entry.up.now) v < k)
+fn lay_path(v: usize, on: &Ground<'_>, d: &mut [u64], entries: &mut [u16])
+    requires { Layable on.now.shortest.now on.now.up.now on.now.dist.now d.old }
+    ensures { (g : Given) (k : ℕ) → Direct g on.now.lengths.now on.now.shortest.now on.now.up.now
+        on.now.dist.now → (Late on.now.dist.now d.old v
+        → depth on.now.shortest.now on.now.up.now (length on.now.up.now) v < k)
         → notes_of d.new entries.new
         ≡ lay g k v (notes_of d.old entries.old) }
 {
@@ -91,10 +92,10 @@ fn lay_path(v: usize, on: Ground<'_>, d: &mut [u64], entries: &mut [u16])
 }
 
 // On entering v: lays its direct path where its note is over its limit, and answers how many paths that counts.
-fn enter_post(v: usize, on: Ground<'_>, d: &mut [u64], entries: &mut [u16]) -> u32
-    requires { Layable on.shortest.now on.up.now on.dist.now d.old }
-    ensures { (g : Given) → Entering g v on.entry.limits.now on.entry.lengths.now on.entry.shortest.now
-        on.entry.up.now on.entry.dist.now
+fn enter_post(v: usize, on: &Ground<'_>, d: &mut [u64], entries: &mut [u16]) -> u32
+    requires { Layable on.now.shortest.now on.now.up.now on.now.dist.now d.old }
+    ensures { (g : Given) → Entering g v on.now.limits.now on.now.lengths.now on.now.shortest.now
+        on.now.up.now on.now.dist.now
         → Shows (enter g v (notes_of d.old entries.old))
         d.new entries.new result }
 {
@@ -147,11 +148,11 @@ fn link_children(segments: SegmentLists<'_>, walked: &[u16], first: &mut [u16], 
 
 // THE WALK
 // Walks v and all below it, at most `left` posts deep, and answers how many direct paths were laid.
-fn walk_from(left: usize, v: usize, on: Ground<'_>, d: &mut [u64], entries: &mut [u16]) -> u32
-    requires { Walking left v on.walked.now on.first.now on.after.now on.limits.now on.lengths.now
-        on.shortest.now on.up.now on.dist.now d.old entries.old }
-    ensures { Walked left v on.entry.walked.now on.entry.first.now on.entry.after.now on.entry.limits.now
-        on.entry.lengths.now on.entry.shortest.now on.entry.up.now on.entry.dist.now
+fn walk_from(left: usize, v: usize, on: &Ground<'_>, d: &mut [u64], entries: &mut [u16]) -> u32
+    requires { Walking left v on.now.walked.now on.now.first.now on.now.after.now on.now.limits.now on.now.lengths.now
+        on.now.shortest.now on.now.up.now on.now.dist.now d.old entries.old }
+    ensures { Walked left v on.now.walked.now on.now.first.now on.now.after.now on.now.limits.now
+        on.now.lengths.now on.now.shortest.now on.now.up.now on.now.dist.now
         d.old entries.old result d.new entries.new }
 {
     if left == 0 {
@@ -236,7 +237,7 @@ fn walk_net(
         up,
         dist,
     };
-    walk_from(posts, source, on, &mut d[..posts], entries)
+    walk_from(posts, source, &on, &mut d[..posts], entries)
 }
 
 // The third tree of a net, by a walk over the tree `walked` from the source: puts its entries into the lent list, one

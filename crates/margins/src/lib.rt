@@ -112,7 +112,9 @@ fn margin_in(
     ensures { result ≡ margin_answer_of (margin_of every (net_in net.entry.lists)
         (count_in net.entry.lists.segments) (ratio_count_in net.entry.lists.own) tree post) }
 {
-    trees::all_trees(net, dist, light, short, third)?;
+    if let Err(apart) = trees::all_trees(net, dist, light, short, third) {
+        return Err(apart);
+    }
     if post >= net.lists.head.posts {
         return refuse(19, 0);
     }
@@ -126,13 +128,14 @@ pub fn margin_sound(net: SoundNet<'_>, tree: Tree, post: u32) -> Result<i64, Ref
     ensures answered { result ≡ margin_answer_of (margin_of every (net_in net.entry.lists)
         (count_in net.entry.lists.segments) (ratio_count_in net.entry.lists.own) tree post) }
 {
+    let net = rated(net)?;
     let posts = net.lists.head.posts as usize;
     let mut dist = [0u64; POST_PLACES];
     let mut light = [0u16; POST_PLACES];
     let mut short = [0u16; POST_PLACES];
     let mut third = [0u16; POST_PLACES];
     margin_in(
-        rated(net)?,
+        net,
         &mut dist[..posts],
         &mut light[..posts],
         &mut short[..posts],

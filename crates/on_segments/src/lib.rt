@@ -5,9 +5,9 @@
 // segments that is too long is refused with 4.
 #![tactic(auto)]
 
-ghost use Rattle.std.specs.Prelude.{◌≡◌, length};
+ghost use Rattle.std.specs.Prelude.{◌≡◌, length, replicate};
 ghost use Rattle.crossings.specs.Lists.{net_on, TakenIn};
-ghost use Rattle.net.specs.Net.{every, ratios_of};
+ghost use Rattle.net.specs.Net.{every, most_segments, ratios_of};
 ghost use Rattle.net.specs.Ready.{ratio_count_in, net_in};
 ghost use Rattle.net.specs.Building.{margin_of};
 ghost use Rattle.building.specs.Answers.{Leaves};
@@ -37,7 +37,10 @@ struct Lists {
 
 impl Lists {
     // With nothing in them.
-    fn new() -> Lists {
+    fn new() -> Lists
+        ensures empty { (result.a ≡ replicate most_segments 0) × (result.b ≡ replicate most_segments 0)
+            × (result.lengths ≡ replicate most_segments 0) }
+    {
         Lists {
             a: [0; MOST_SEGMENTS],
             b: [0; MOST_SEGMENTS],

@@ -1,5 +1,5 @@
--- What a step of the reader hands on, and the refusals that it hands on: each step begins where the one before it ended, in the same record. Relies on numbers' Groups and
--- on what the steps answer (`read_of`).
+-- What a step of the reader hands on, and the refusals that it hands on: each step begins where the one before it ended, in the same record. Relies on numbers' Groups, on
+-- Carrying and on what the steps answer (`read_of`, of a number also `carried_on`).
 use Prim.Native.Nat.{ℕ}
 use mathlib.Core.Path.{◌≡◌, refl, sym, ap, ◌∙◌}
 use mathlib.Core.List.{List}
@@ -9,13 +9,15 @@ use Rattle.net.specs.Net.{Ratio}
 use Rattle.net.specs.declared.Counted.{Counted}
 use Rattle.net.specs.declared.Refusal.{Refusal}
 use Rattle.numbers.specs.Numbers.{Got, got, refused, number}
-use Rattle.numbers.specs.Answers.{numbered_of}
+use Rattle.numbers.specs.Answers.{numbered_of, says_numbered}
 use Rattle.numbers.specs.declared.Number.{Number}
 use Rattle.numbers.specs.declared.Misread.{Misread}
 use Rattle.numbers.proofs.Groups.{number_place}
 use Rattle.numbers.specs.declared.reader.Reader.{Reader}
 use Rattle.reading.specs.Reading.{Reading, Heading}
 use Rattle.reading.specs.Answers.{read_of, counted}
+use Rattle.reading.specs.Carrying.{Numbered, carried_on}
+use Rattle.reading.proofs.Carrying.{read}
 
 -- a number that was misread, where it begins
 pub misread_near : (bytes : List ℕ) (at : ℕ) {v : Result Number Misread} {m : Misread} → v ≡ numbered_of (number bytes at) → v ≡ Err m → m.place ≡ at
@@ -57,6 +59,21 @@ hands_on k s {x} {t} e f = rw e (ap (λ b. Ok (k x (record { bytes = b; at = t.a
 module _ {X : Type 0} (f : List ℕ → Reading X) (s r : Reader) (same : r.bytes ≡ s.bytes) {Y : Type 0} (k : X → ℕ → Y) {v : Result Y Refusal} where
   pub stops : {q : Refusal} → v ≡ read_of k (f r.bytes.now r.at) → v ≡ Err q → f s.bytes.now r.at ≡ refused q
   stops e g = stopped k (rw same at e) g
+
+-- A NUMBER that the reader r hands on, in the record of the reader s
+module _ (s r : Reader) (same : r.bytes ≡ s.bytes) {v : Result (ℕ × Reader) Refusal} (e : v ≡ carried_on r (read r.bytes.now r.at)) where
+  pub carried_stops : {q : Refusal} → v ≡ Err q → says_numbered (read s.bytes.now r.at) ≡ refused q
+  carried_stops g = rw same at (stopped _ e g)
+
+  -- what was read, and the reader that goes on behind it
+  pub carried_steps : {n : ℕ} {t : Reader} → v ≡ Ok (n, t) → (read s.bytes.now r.at ≡ Ok (record { value = n; next = t.at })) × (t.bytes ≡ s.bytes)
+  carried_steps {n} {t} g = go (read s.bytes.now r.at) (rw same at e)
+    where
+      go : (w : Numbered) → v ≡ carried_on s w → (w ≡ Ok (record { value = n; next = t.at })) × (t.bytes ≡ s.bytes)
+      go (Ok x) k =
+          let l : ◌≡◌ {A = ℕ × Reader} (x.value, record { bytes = s.bytes; at = x.next }) (n, t) = cc in
+          (ap (λ (p : ℕ × Reader). Ok (record { value = p.0; next = p.1.at })) l, sym (ap (λ (p : ℕ × Reader). p.1.bytes) l))
+      go (Err m) k = let z : ◌≡◌ {A = ℕ} 0 1 = cc in absurd (omega arith)
 
 -- what it read, and the reader behind it
 abbrev pub Step : {X : Type 0} → (List ℕ → Reading X) → Reader → ℕ → X → Reader → Type 0

@@ -1,5 +1,5 @@
 -- Numbers that a reader reads one behind the other, whatever was refused before: what two, three and five of them come to is what `ratio`, `segment` and `headed` say
--- (`ratio_carried`, `segment_carried`, `heading_carried`). Relies on Steps.
+-- (`ratio_carried`, `segment_carried`, `heading_carried`): so `ratio_at`, `segment_at` and `head_at` meet their contracts. Relies on Steps.
 use Prim.Native.Nat.{ℕ}
 use mathlib.Core.Path.{◌≡◌, refl, sym, ◌∙◌}
 use mathlib.Core.List.{List}

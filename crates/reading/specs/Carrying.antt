@@ -1,20 +1,27 @@
 -- What numbers come to that a reader reads one behind the other: each begins where the one before it ends, and where one
--- is refused the reader stays, so the first refusal stands whatever is read after it. proofs/Carrying joins it to what
--- `Reading` says of the bytes.
+-- is refused the reader stays, so the first refusal stands whatever is read after it. The code's `next` hands on each
+-- number so (`carried_on`). proofs/Carrying joins what they come to to what `Reading` says of the bytes.
 use Rattle.std.specs.Prelude.{ℕ, Result}
 use Rattle.net.specs.Net.{Ratio}
 use Rattle.net.specs.Refusals.{first, ratio_lines}
 use Rattle.net.specs.declared.Form.{Form}
 use Rattle.net.specs.declared.Head.{Head}
+use Rattle.net.specs.declared.Refusal.{Refusal}
 use Rattle.numbers.specs.Numbers.{Got, got}
-use Rattle.numbers.specs.Answers.{says_numbered}
+use Rattle.numbers.specs.Answers.{says_numbered, behind_of}
 use Rattle.numbers.specs.declared.Number.{Number}
 use Rattle.numbers.specs.declared.Misread.{Misread}
+use Rattle.numbers.specs.declared.reader.Reader.{Reader}
 use Rattle.reading.specs.Reading.{and_then, unless, Triple, Heading}
+use Rattle.reading.specs.Answers.{read_of}
 
 -- what is read at a place
 abbrev pub Numbered : Type 0
 Numbered = Result Number Misread
+
+-- what a reader hands on of what it read: the number and the reader at the place behind it, or the refusal
+abbrev pub carried_on : Reader → Numbered → Result (ℕ × Reader) Refusal
+carried_on r read = read_of (λ n _. (n, record { bytes = r.bytes; at = behind_of read })) (says_numbered read)
 
 -- the answers of three numbers in a row, or the first refusal among them
 unfoldable pub triple_of : Numbered → Numbered → Numbered → Got Triple

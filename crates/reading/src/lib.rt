@@ -12,25 +12,30 @@ ghost use Rattle.std.specs.Prelude.{◌≡◌, ◌≤◌, ◌++◌, length, drop
 ghost use Rattle.net.specs.Net.{most_posts, most_segments, own_of};
 ghost use Rattle.net.specs.Ready.{ratios_in};
 ghost use Rattle.numbers.specs.Numbers.{number};
+ghost use Rattle.numbers.specs.Answers.{numbered_of};
 ghost use Rattle.reading.specs.Reading.{formed, headed, ratio, posts, segment, segments, net_read};
 ghost use Rattle.reading.specs.Answers.{read_of, counted, the_own_posts, OwnStored, SegmentsStored};
 ghost use Rattle.reading.specs.Answers.{laid_in, ReadIn, ReadsLists, check_read};
+ghost use Rattle.reading.specs.Carrying.{carried_on};
 
 use checks::{check_head, check_numbers, check_ratio};
 use net::plain::refuse;
 use net::{
     Counted, Form, Head, MOST_SEGMENTS, POST_PLACES, RatioLists, Refusal, Segment, SegmentLists,
 };
-use numbers::reader::{Reader, moved, new, number};
+use numbers::reader::{Reader, behind, moved, new, number};
 
 // The number at the reader's place, and the reader behind it; or 10 or 11.
 fn next<'a>(r: Reader<'a>) -> Result<(u32, Reader<'a>), Refusal>
     requires { r.at ≤ 2000000 }
-    ensures { result ≡ read_of (λ n at. (n, record { bytes = r.entry.bytes; at = at }))
+    ensures reads { result ≡ read_of (λ n at. (n, record { bytes = r.entry.bytes; at = at }))
         (number r.entry.bytes.now r.entry.at) }
+    ensures carries { result ≡ carried_on r.entry (numbered_of (number r.entry.bytes.now r.entry.at)) }
 {
-    match number(r) {
-        Ok(n) => Ok((n.value, moved(r, n.next))),
+    let read = number(r);
+    let on = moved(r, behind(read));
+    match read {
+        Ok(n) => Ok((n.value, on)),
         Err(misread) => refuse(misread.number, misread.place as u32),
     }
 }

@@ -92,7 +92,8 @@ fn reach_from(
     let mut c = usize::from(at(net.first, u, 0));
     while c > 0 {
         let i = (c - 1) / 2;
-        if marks[i] {
+        let marked = marks[i];
+        if marked {
             let w = across(usize::from(segments.a[i]), usize::from(segments.b[i]), u);
             reach(w, i, walk, tree);
         }

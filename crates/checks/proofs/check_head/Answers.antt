@@ -10,7 +10,7 @@ use Rattle.checks.proofs.check_head.Goals as goal
 use Rattle.checks.proofs.check_head.Goals.{then-head-eq0-via-then-head-eq0, then-head-eq0-via-else-head-eq0+then-head-gt-MOST_POSTS}
 
 pub returns-then-head-eq0 : goal.returns-then-head-eq0
-returns-then-head-eq0 c = record { checked = c.refuse.ensures.refused ∙ refused_by (head_first _ _ (one (elim c.then-head-eq0.branch [ then-head-eq0-via-then-head-eq0 w ↦ inl w.if-head-eq0.true | then-head-eq0-via-else-head-eq0+then-head-gt-MOST_POSTS w ↦ inr w.if-head-gt-MOST_POSTS.true ]))) }
+returns-then-head-eq0 c = record { checked = c.refuse.ensures.refused ∙ refused_by (head_first _ _ (one (elim c.then-head-eq0.branch [ then-head-eq0-via-then-head-eq0 w ↦ inl w.if-head-eq0.true | then-head-eq0-via-else-head-eq0+then-head-gt-MOST_POSTS w ↦ inr (omega (arith, w.if-head-gt-MOST_POSTS.true)) ]))) }
 
 pub returns-then-head : goal.returns-then-head
 returns-then-head c = record { checked = c.refuse-then-head.ensures.refused ∙ refused_by (head_first _ _ (two (record { some_posts = omega arith; few_posts = omega arith }) c.if-head.true)) }

@@ -11,9 +11,9 @@ use Rattle.checks.proofs.check_ratio.Goals.{then-q-eq0-via-then-q-eq0, then-q-eq
 pub returns-then-q-eq0 : goal.returns-then-q-eq0
 returns-then-q-eq0 c = record {
   checked = c.refuse.ensures.refused ∙ refused_by (ratio_first _ _ (three_of (elim c.then-q-eq0.branch [
-    | then-q-eq0-via-then-q-eq0 w ↦ inl w.if-q-eq0.true
+    | then-q-eq0-via-then-q-eq0 w ↦ inl (omega (arith, w.if-q-eq0.true))
     | then-q-eq0-via-else-q-eq0+then-p-gt-MOST_RATIO w ↦ inr (inl w.if-p-gt-MOST_RATIO.true)
-    | then-q-eq0-via-else-q-eq0+else-p-gt-MOST_RATIO+then-q-gt-MOST_RATIO w ↦ inr (inr w.if-q-gt-MOST_RATIO.true)
+    | then-q-eq0-via-else-q-eq0+else-p-gt-MOST_RATIO+then-q-gt-MOST_RATIO w ↦ inr (inr (omega (arith, w.if-q-gt-MOST_RATIO.true)))
   ])));
 }
 
